@@ -9,6 +9,7 @@ import subprocess
 import sys
 import time
 
+import page_values
 from browser import Browser
 from page_inputs import hostile_inputs, long_room, MARKUP, random_room, RETRIES
 
@@ -30,9 +31,9 @@ window.testing = {
     const i = model.lanes.findIndex((_, lane) => Math.abs(chart.laneX(lane) - x) < 0.6);
     return i < 0 ? 'open' : model.lanes[i].name;
   },
-  drawn(text, nth = 0) {
+  drawn(text, nth = 0, found = null) {
     const { app } = this;
-    const row = this.rowOf(text, nth);
+    const row = found || this.rowOf(text, nth);
     if (!row) throw new Error(`no row ${text}`);
     if (row.into) app.toggle(row);
     app.chart.box.scrollTop = app.chart.tops[row.place];
@@ -79,6 +80,61 @@ window.testing = {
   },
   panel() {
     return document.getElementById('panel').textContent;
+  },
+  /* All that is shown of a row once it is selected: in the chart, in the heads, and in the side panel. */
+  shown(index) {
+    const { app } = this;
+    const row = app.model.rows[index];
+    app.banded = null;
+    app.openPanel('selected');
+    app.select(row);
+    app.chart.draw();
+    const group = document.getElementById(`row${row.index}`);
+    const texts = (root, selector) => [...root.querySelectorAll(selector)].map(one => one.textContent);
+    const cells = table => [...table.rows].map(tr => [...tr.cells].map(cell => cell.textContent));
+    const content = document.querySelector('#panel > div');
+    const parts = { tables: {}, lists: {}, texts: [] };
+    let above = '';
+    for (const one of content.children) {
+      if (/^H\d$/.test(one.tagName)) above = one.textContent;
+      else if (one.tagName === 'TABLE') parts.tables[above] = cells(one);
+      else if (one.tagName === 'DETAILS') parts.tables[one.querySelector('summary').textContent] = cells(one.querySelector('table'));
+      else if (one.tagName === 'UL') parts.lists[above] = texts(one, 'li');
+      else parts.texts.push(one.textContent);
+    }
+    const claims = [...group.querySelectorAll('.claim')].map(box => {
+      const x = Number(box.getAttribute('x')) + Number(box.getAttribute('width')) + 7;
+      return `${this.laneAt(x)} ${box.nextElementSibling.textContent}`;
+    });
+    return {
+      type: row.type, at: row.at, time: texts(group, '.time').join(), label: texts(group, '.label').join(), verdict: texts(group, '.verdict').join(),
+      notes: texts(group, '.note'), warnings: texts(group, '.warn'), titles: texts(group, '.lost title'), claims,
+      name: group.getAttribute('aria-label'), heads: [...document.querySelectorAll('#heads g')].map(head => texts(head, 'text')),
+      hints: texts(document, '#heads title'), title: texts(content, 'h2').join(), marks: this.drawn(row.o ? row.o.line : '-', 0, row),
+      ...parts,
+    };
+  },
+  /* Where the strip has a row: what a click at its middle selects. */
+  clicked(index) {
+    const { app } = this;
+    const row = app.model.rows[index];
+    const strip = document.getElementById('strip');
+    const box = strip.getBoundingClientRect();
+    const x = box.x + (row.at / app.model.end) * box.width;
+    strip.dispatchEvent(new MouseEvent('click', { clientX: x, clientY: box.y + 10, bubbles: true }));
+    return [app.selected.at, (2 * app.model.end) / box.width];
+  },
+  /* The texts that a canvas draws. */
+  written(draw) {
+    const plain = CanvasRenderingContext2D.prototype.fillText;
+    const found = [];
+    CanvasRenderingContext2D.prototype.fillText = function write(text, x, y) {
+      found.push([text, x, y]);
+      plain.call(this, text, x, y);
+    };
+    draw();
+    CanvasRenderingContext2D.prototype.fillText = plain;
+    return found;
   },
 };
 true
@@ -320,6 +376,123 @@ def capture_is_drawn(t, b):
     b.js(f"testing.app.select({out}.row)")
     marked = b.js("[...document.querySelectorAll('#panel td .bad')].map(one => one.textContent)")
     t.holds("a width out of its window is marked", "out" in marked, marked)
+
+
+def values_are_the_programs(t, b):
+    """Each value that the page shows of a run is the program's: chart, heads, side panel, strip and tooltips, row by row, of two
+    rooms and a capture."""
+    for name, room in [("evening.net", example("living-room-evening.net")), ("retries.net", RETRIES)]:
+        run = page_values.Run(program, room=room)
+        show(b, written(name, room))
+        rows_are_shown(t, b, name, run, page_values.Page)
+        t.same(f"{name}: hints", b.js("testing.shown(0).hints"), [f"{one}, {run.kinds[one]}: search for it" for one in run.devices])
+        strip_is_shown(t, b, name, run)
+    rows = [(int(at), level) for at, level in (line.split() for line in program(RETRIES, "run", "--edges").splitlines())]
+    # Each fortieth rise comes late by 300, and each sixtieth by as much too early
+    rows = [(at + 300 * (level == "1") * ((i % 40 == 21) - (i % 60 == 31)), level) for i, (at, level) in enumerate(rows)]
+    text = "".join(f"{at} {level}\n" for at, level in rows)
+    wide = ["--margin", "200"]
+    run = page_values.Run(program, capture=text, flags=wide, changes=[at for at, level in rows if level != "end"])
+    show(b, written("faulty.edges", text), *wide)
+    rows_are_shown(t, b, "faulty.edges", run, page_values.PageOfCapture)
+    t.same("faulty.edges: hints", b.js("testing.shown(0).hints"),
+           [f"{digit}, {page_values.ADDRESSES[int(digit, 16)]}: search for it" for digit in run.lanes()])
+
+
+def rows_are_shown(t, b, name, run, kind):
+    unfold = ("testing.app.model.rows.forEach(row => { if (row.first) testing.app.unfolded.add(row.first); });"
+              " testing.app.filter(), testing.app.model.rows.map((_, index) => testing.shown(index))")
+    kinds = {"reading": "round", "port": "ports"}
+    all_got = b.js(unfold)
+    t.same(f"{name}: the rows", [[got["type"], got["at"]] for got in all_got],
+           [[kinds.get(row["type"], row["type"]), row.get("begin", row.get("at"))] for row in run.rows])
+    for number, (row, got) in enumerate(zip(run.rows, all_got)):
+        what = f"{name}: {row.get('line', row)}"
+        page = kind(run, number) if row["type"] in ("round", "reading", "event") else None
+        if page:
+            t.same(f"{what}: heads", got["heads"], page.heads())
+            t.same(f"{what}: claims", sorted(got["claims"]), sorted(page.claims()))
+            t.same(f"{what}: time", got["time"], page_values.seconds(row.get("begin", row.get("at"))))
+            t.same(f"{what}: its name", got["name"], row["line"])
+        if row["type"] in ("round", "reading"):
+            round_is_shown(t, what, got, page)
+        elif row["type"] == "event":
+            event_is_shown(t, what, got, row)
+        elif row["type"] == "gap":
+            idle = page_values.duration(row["until"] - row["at"])
+            t.same(what, [got["notes"], got["texts"]],
+                   [[f"idle {idle}"], [f"Nothing for {idle}, from {row['at']} to {row['until']} µs."]])
+        elif row["type"] == "end":
+            t.same(what, [got["notes"], got["texts"]], [["end"], [f"The run ends at {row['at']} µs."]])
+
+
+def round_is_shown(t, what, got, page):
+    run, one = page.run, page.row
+    remarks, attempt = page.run.remarks(one), page.run.attempt(one)
+    to, receivers = page.receivers()
+    label = page_values.label(one)
+    is_open = bool(to) and to != "f" and not receivers and not page_values.is_poll(one) and (one["ending"] == "complete" or page_values.stopped(one))
+    t.same(f"{what}: label", got["label"], f"{label} → {to}" if is_open else label)
+    verdict = page_values.verdict(one)
+    t.same(f"{what}: verdict", got["verdict"], verdict + (f"⚠ {len(remarks)}" if remarks else ""))
+    t.same(f"{what}: attempt", got["notes"], [f"attempt {attempt}"] if attempt and attempt > 1 else [])
+    t.same(f"{what}: out", [got["titles"], [text for text in got["warnings"] if "out" in text]],
+           [[page.why(out) for out in page.losers()], [f"out @{out['slot']}" for out in page.losers()]])
+    marks = got["marks"]
+    t.same(f"{what}: senders", marks["senders"], page.senders() or ["open"])
+    if to != "f":
+        t.same(f"{what}: where its arrow ends", marks["heads"] if receivers else [], receivers)
+    else:
+        t.same(f"{what}: who hears it", sorted([*marks["heads"], *marks["hearers"]]), sorted(receivers))
+    t.same(f"{what}: title", got["title"], one["frame"] if one["ending"] == "complete" else f"{one['ending']} {one['bits'] or ''}")
+    t.same(f"{what}: sentence", got["texts"][0], f"{verdict} {page.sentence()}")
+    t.same(f"{what}: parties and times", got["tables"][got["title"]], page.parties())
+    t.same(f"{what}: blocks", got["tables"].get("Blocks"), page.blocks())
+    widths = got["tables"].get("Widths, in µs")
+    t.same(f"{what}: widths", widths and widths[1:], page.widths())
+    t.same(f"{what}: free time", [text for text in got["texts"] if "was high for" in text], [page.free()] if page.free() else [])
+    slots = run.wires[0][1].slots(one["begin"], one["close"])
+    each = [[str(low), "" if i + 1 == len(slots) else str(total)] for i, (_, low, total) in enumerate(slots)]
+    shown = got["tables"].get("Each slot")
+    if one["ending"] == "complete":
+        t.same(f"{what}: each slot", [row[2:] for row in shown[1:]], each)
+        parts = ["bit 1", "bit 2", "bit 3", "bit 4", "bit 5", "bit 6", "bit 7", "bit 8", "EOM", "ACK"]
+        names = ["start", *(f"block {i // 10 + 1} {parts[i % 10]}" for i in range(len(slots) - 1))]
+        bits = ["", *("0" if low > page_values.SAMPLE else "1" for _, low, _ in slots[1:])]
+        t.same(f"{what}: bits", [row[:2] for row in shown[1:]], [list(pair) for pair in zip(names, bits)])
+
+    def said(below):
+        return [one["line"].strip() + (f" (CEC {one['section']})" if one["section"] else "") for one in below]
+    t.same(f"{what}: remarks and notes", [got["lists"].get("Remarks of the audit", []), got["lists"].get("Notes of the audit", [])],
+           [said(remarks), said(run.notes(one))])
+    t.same(f"{what}: line", got["texts"][-2], one["line"])
+
+
+def event_is_shown(t, what, got, row):
+    is_refused = row["verdict"] != "ok"
+    t.same(f"{what}: the event", [got["label"], got["title"]], [row["text"], row["text"]])
+    if is_refused:
+        t.same(f"{what}: its refusal", [got["warnings"], got["texts"][0]],
+               [[f"refused {row['cause']}"], f"event was refused: {page_values.CAUSES[row['cause']]} at {row['at']} µs."])
+    else:
+        t.same(f"{what}: applied", [got["notes"], got["texts"][0]],
+               [[f"line {row['script_line']}"], f"event was applied at {row['at']} µs."])
+    t.same(f"{what}: its line", got["texts"][1:3], [f"Line {row['script_line']} of the script.", row["line"]])
+
+
+def strip_is_shown(t, b, name, run):
+    """A click on the strip goes to the row that is there, and the row's colour is there."""
+    for number, row in enumerate(run.rows):
+        if row["type"] != "round" or number % 5:
+            continue
+        at, pixel = b.js(f"testing.clicked({number})")
+        t.holds(f"{name}: a click on the strip", abs(at - row["begin"]) <= pixel, [at, row])
+    ink = b.js("""(() => { const { app } = testing; const { model } = app; const strip = app.strip;
+      const pen = strip.getContext('2d');
+      return model.rows.filter(row => row.type === 'round' && row.until - row.at > model.end / 200).map(row => {
+        const x = Math.round(((row.at + row.until) / 2 / model.end) * strip.width);
+        return pen.getImageData(x, Math.round(18 * strip.height / 34), 1, 1).data[3] > 0; }); })()""")
+    t.holds(f"{name}: rounds are on the strip", all(ink), ink)
 
 
 def failures_are_drawn(t, b):
@@ -817,7 +990,8 @@ def sources_are_plain(t, _):
 
 
 ALL = [sources_are_plain, verdicts_are_drawn, colours_differ, retries_are_folded, wave_is_drawn, other_lines_are_noticed,
-       capture_is_drawn, advice_is_shown, attempts_are_the_audits, failures_are_drawn, keys_reach_all, mouse_works, hostile_inputs_are_harmless,
+       capture_is_drawn, advice_is_shown, attempts_are_the_audits, values_are_the_programs,
+       failures_are_drawn, keys_reach_all, mouse_works, hostile_inputs_are_harmless,
        inferences_are_the_programs, sentences_are_the_programs, dumps_are_read, files_may_be_dropped, pages_are_made,
        examples_have_pages,
        long_runs_are_fast]

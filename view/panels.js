@@ -114,6 +114,9 @@ function blocks(model, round) {
 
 const span = (least, most) => (least === most ? String(least) : `${least}..${most}`);
 
+/* Whether the fall after a slot came too early, and ended the round. */
+const isEnd = (round, slot) => round.ending === 'short' && slot.at + slot.total === round.close;
+
 /* Which widths of a round are in the windows of CEC 5.2, and each slot as a table. */
 function widths(model, round) {
   const slots = slotsOf(model, round);
@@ -133,7 +136,7 @@ function widths(model, round) {
       if (!isWithin(width, window)) faults.push(`${where}: ${name} ${width}`);
     };
     put(kinds[i === 0 ? 0 : slot.bit ? 3 : 2], slot.low);
-    if (slots[i + 1]) put(kinds[i === 0 ? 1 : 4], slot.total);
+    if (slots[i + 1] || isEnd(round, slot)) put(kinds[i === 0 ? 1 : 4], slot.total);
   });
   const rows = kinds.filter(kind => kind.seen.length > 0).map(({ name, window, seen }) => {
     const isIn = seen.every(width => isWithin(width, window));
@@ -146,13 +149,13 @@ function widths(model, round) {
     table(rows, ['', 'seen', 'allowed', '']),
     free !== null && html('p', {}, `The line was high for ${free} µs before${asked}.`),
     faults.length > 0 && html('ul', { class: 'bad' }, faults.slice(0, 12).map(fault => html('li', {}, fault))),
-    html('details', {}, html('summary', {}, 'Each slot'), slotTable(slots)),
+    html('details', {}, html('summary', {}, 'Each slot'), slotTable(round, slots)),
   ];
 }
-function slotTable(slots) {
+function slotTable(round, slots) {
   const rows = slots.map(({ bit, low, total }, i) => [
     i === 0 ? 'start' : `block ${blockOf(i)} ${partOf(i)}`, i === 0 ? '' : bit,
-    isWithin(low, lowWindow(i, bit)) ? low : bad(String(low)), slots[i + 1] ? total : '',
+    isWithin(low, lowWindow(i, bit)) ? low : bad(String(low)), slots[i + 1] || isEnd(round, slots[i]) ? total : '',
   ]);
   return table(rows, ['slot', 'bit', 'low', 'total']);
 }

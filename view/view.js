@@ -355,10 +355,14 @@ class App {
     }
     return strip;
   }
+  /* Selects the row that is nearest to a part of the whole; idle time is none. */
   selectAt(part) {
-    const { shown } = this.chart;
-    const row = shown[Math.min(lowerBound(shown, part * this.model.end, one => one.at), shown.length - 1)];
-    if (row) this.select(row);
+    const shown = this.chart.shown.filter(row => row.type !== 'gap');
+    const instant = part * this.model.end;
+    const after = lowerBound(shown, instant, one => one.at);
+    const distance = row => Math.max(row.at - instant, instant - (row.until ?? row.at), 0);
+    const near = shown.slice(Math.max(after - 1, 0), after + 1).sort((a, b) => distance(a) - distance(b));
+    if (near.length > 0) this.select(near[0]);
   }
 
   setTheme(name) {
