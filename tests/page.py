@@ -98,7 +98,7 @@ window.testing = {
     for (const one of content.children) {
       if (/^H\d$/.test(one.tagName)) above = one.textContent;
       else if (one.tagName === 'TABLE') parts.tables[above] = cells(one);
-      else if (one.tagName === 'DETAILS') parts.tables[one.querySelector('summary').textContent] = cells(one.querySelector('table'));
+      else if (one.tagName === 'DETAILS') parts.tables[one.firstChild.textContent] = cells(one.querySelector('table'));
       else if (one.tagName === 'UL') parts.lists[above] = texts(one, 'li');
       else parts.texts.push(one.textContent);
     }
@@ -107,11 +107,11 @@ window.testing = {
       return `${this.laneAt(x)} ${box.nextElementSibling.textContent}`;
     });
     return {
-      type: row.type, at: row.at, time: texts(group, '.time').join(), label: texts(group, '.label').join(), verdict: texts(group, '.verdict').join(),
-      notes: texts(group, '.note'), warnings: texts(group, '.warn'), titles: texts(group, '.lost title'), claims,
+      type: row.type, at: row.at, time: texts(group, '.time').join(), label: texts(group, '.label').join(),
+      verdict: texts(group, '.verdict').join(), notes: texts(group, '.note'), warnings: texts(group, '.warn'),
+      titles: texts(group, '.lost title'), claims,
       name: group.getAttribute('aria-label'), heads: [...document.querySelectorAll('#heads g')].map(head => texts(head, 'text')),
-      hints: texts(document, '#heads title'), title: texts(content, 'h2').join(), marks: this.drawn(row.o ? row.o.line : '-', 0, row),
-      ...parts,
+      hints: texts(document, '#heads title'), title: texts(content, 'h2').join(), marks: this.drawn('', 0, row), ...parts,
     };
   },
   /* Where the strip has a row: what a click at its middle selects. */
@@ -378,25 +378,39 @@ def capture_is_drawn(t, b):
     t.holds("a width out of its window is marked", "out" in marked, marked)
 
 
-def values_are_the_programs(t, b):
-    """Each value that the page shows of a run is the program's: chart, heads, side panel, strip and tooltips, row by row, of two
-    rooms and a capture."""
-    for name, room in [("evening.net", example("living-room-evening.net")), ("retries.net", RETRIES)]:
-        run = page_values.Run(program, room=room)
-        show(b, written(name, room))
-        rows_are_shown(t, b, name, run, page_values.Page)
-        t.same(f"{name}: hints", b.js("testing.shown(0).hints"), [f"{one}, {run.kinds[one]}: search for it" for one in run.devices])
-        strip_is_shown(t, b, name, run)
+def values_of_room(t, b, name, room):
+    """Each value that the page shows of a room's run is the program's: chart, heads, side panel, wave, strip and tooltips."""
+    run = page_values.Run(program, room=room)
+    show(b, written(name, room))
+    rows_are_shown(t, b, name, run, page_values.Page)
+    hints = [f"{one}, {run.kinds[one]}: search for it" for one in run.devices]
+    t.same(f"{name}: hints", b.js("testing.shown(0).hints"), hints)
+    panels_are_shown(t, b, name, run)
+    wave_is_shown(t, b, name, run)
+    strip_is_shown(t, b, name, run)
+
+
+def values_of_an_evening(t, b):
+    """An amplifier, a switch, a recorder and players, half a minute of them."""
+    values_of_room(t, b, "evening.net", example("living-room-evening.net"))
+
+
+def values_of_retries(t, b):
+    """Attempts, a lost arbitration, refusals, pulses, and devices that lose their place."""
+    values_of_room(t, b, "retries.net", RETRIES)
+
+
+def values_of_a_capture(t, b):
+    """A capture: each fortieth rise comes late by 300, and each sixtieth by as much too early."""
     rows = [(int(at), level) for at, level in (line.split() for line in program(RETRIES, "run", "--edges").splitlines())]
-    # Each fortieth rise comes late by 300, and each sixtieth by as much too early
     rows = [(at + 300 * (level == "1") * ((i % 40 == 21) - (i % 60 == 31)), level) for i, (at, level) in enumerate(rows)]
     text = "".join(f"{at} {level}\n" for at, level in rows)
     wide = ["--margin", "200"]
     run = page_values.Run(program, capture=text, flags=wide, changes=[at for at, level in rows if level != "end"])
     show(b, written("faulty.edges", text), *wide)
     rows_are_shown(t, b, "faulty.edges", run, page_values.PageOfCapture)
-    t.same("faulty.edges: hints", b.js("testing.shown(0).hints"),
-           [f"{digit}, {page_values.ADDRESSES[int(digit, 16)]}: search for it" for digit in run.lanes()])
+    hints = [f"{digit}, {page_values.ADDRESSES[int(digit, 16)]}: search for it" for digit in run.lanes()]
+    t.same("faulty.edges: hints", b.js("testing.shown(0).hints"), hints)
 
 
 def rows_are_shown(t, b, name, run, kind):
@@ -426,12 +440,138 @@ def rows_are_shown(t, b, name, run, kind):
             t.same(what, [got["notes"], got["texts"]], [["end"], [f"The run ends at {row['at']} µs."]])
 
 
+TABLE = ("[...document.querySelectorAll('#panel table')].map(table => [...table.rows].map(tr => [...tr.cells]"
+         ".map(cell => cell.textContent)))")
+
+
+def panels_are_shown(t, b, name, run):
+    """The tables of a run: each row, each device at the end, who sent what; and the counts above."""
+    pages = [page_values.Page(run, number) for number, row in enumerate(run.rows) if row["type"] == "round"]
+    b.js("testing.app.openPanel('table'), testing.app.openTable(0)")
+    rows = [row for row in b.js(TABLE)[0][1:] if row[1] or row[2] or row[4] in ("free", "taken", "bad-start", "short", "silent")]
+    t.same(f"{name}: the table of rows", rows, [page_values.grid_row(page) for page in pages])
+    b.js("testing.app.openPanel('devices')")
+    t.same(f"{name}: at the end", b.js(TABLE)[0], page_values.states_table(run))
+    b.js("testing.app.openPanel('talk')")
+    who, found = "", {}
+    for row in b.js(TABLE)[0][1:]:
+        who = row[0] or who
+        found[who, row[1]] = tuple(map(int, row[2:]))
+    t.same(f"{name}: who sent what", found, page_values.talk_table(run, pages))
+    classes = [page_values.class_of(row) for row in run.rows if row["type"] in ("round", "event")]
+    t.same(f"{name}: the chips", b.js("[...document.querySelectorAll('.chip')].map(chip => chip.textContent)"),
+           [f"{one} {classes.count(one)}" for one in page_values.CLASSES if one in classes])
+    t.same(f"{name}: the counts", b.js("document.getElementById('counts').textContent"), f"{len(run.rounds)} rounds")
+
+
+# What is to look at in the run of RETRIES, by hand from its trace: losses, refusals, what broke, and the audit's remarks.
+TO_LOOK_AT = [
+    ["0.397523", "address 4 is taken: not for p2", "×2"],
+    ["2.000000", "tv to 3: not acknowledged, 6 attempts", ""],
+    ["3.000000", "p2 lost the arbitration at bit 1 of the initiator's address", ""],
+    ["4.000000", "amp loses the address 5: unplug amp", ""],
+    ["4.000000", "p1 loses the address 4: unplug amp", ""],
+    ["4.000000", "p2 loses the address 8: unplug amp", ""],
+    ["6.811600", "4>0 feature-abort 09 unrecognized", ""],
+    ["7.000000", "short after 0 of p1", ""],
+    ["7.000000", "slot 1 block 1 bit 1 total 2000 not 2050..2750 and 1 more", ""],
+    ["7.500000", "press p1 volume-up: refused not-for-kind", ""],
+    ["8.000000", "bad-start", ""],
+    ["8.000000", "start low 700 not 3500..3900", ""],
+]
+
+
+def reports_are_shown(t, b):
+    """What is to look at, and a report with its window, by hand; a sweep's stretches."""
+    show(b, written("retries.net", RETRIES))
+    t.same("what is to look at", b.js(TABLE)[0], TO_LOOK_AT)
+    show(b, os.path.join(EXAMPLES, "wrong-film.test"))
+    t.same("a report", b.js("[...document.querySelector('#panel > div').children].map(one => one.textContent)"), [
+        "2 of 3 tests failed.", "✗ 2  expect none within 200000 of film 4>f active-source", "1 seen from 1000000 to 1200000 µs.",
+        "1.068400  4>f active-source 1.0.0.0 ok", "✗ 3  line 4 was refused: not-for-kind",
+        "✓ 1  label on expect within 60000 of film 4>0 image-view-on ack"])
+    show(b, os.path.join(EXAMPLES, "race.sweep"))
+    # examples/race.stretches, in words
+    stretches = [line.split(" ") for line in example("race.stretches").splitlines()]
+    words = {"ok": "✓ holds", "not-ok": "✗ fails"}
+    t.same("a sweep in words", b.js(TABLE)[0][1:], [
+        [span if span.split("..")[0] != span.split("..")[1] else span.split("..")[0], *(words[word] for word in tests)]
+        for span, *tests in stretches])
+    bars = "[...document.querySelectorAll('#space svg')].map(bar => [...bar.querySelectorAll('title')].map(one => one.textContent))"
+    t.same("a sweep's bars", b.js(bars), [[f"{'holds' if tests[i] == 'ok' else 'fails'} from {span.replace('..', ' to ')}"
+                                      for span, *tests in stretches] for i in range(2)])
+
+
+def wave_is_shown(t, b, name, run):
+    """What the wave says: each frame with its verdict, the bits of some, the ruler, and what is under the mouse."""
+    line = run.wires[0][1]
+    for one in run.rounds[::9]:
+        number = json.dumps(one["line"])
+        b.js(f"testing.app.wave.showRound(testing.rowOf({number}).o), testing.app.wave.cursors = [null, null]")
+        texts = b.js("testing.written(() => testing.app.wave.draw())")
+        words = [text for text, _, _ in texts]
+        label = f"{one['frame']} {one['verdict']}" if one["ending"] == "complete" else page_values.label(one)
+        is_there = label in words or any(label.startswith(word[:-1]) and word.endswith("…") for word in words)
+        t.holds(f"{name}: the frame {label}", is_there, words)
+        marks = [(text, x) for text, x, y in texts if re.match(r"\d+\.\d{6}$", text)]
+        places = b.js(f"{json.dumps([float(text) * 1e6 for text, _ in marks])}.map(at => testing.app.wave.x(at) + 3)")
+        t.holds(f"{name}: the ruler", marks and all(abs(x - place) < 0.01 for (_, x), place in zip(marks, places)), [marks, places])
+        if one["ending"] != "complete":
+            continue
+        for slot, (fall, low, total) in list(enumerate(line.slots(one["begin"], one["close"])))[:12]:
+            read = b.js(f"testing.app.wave.readingAt({fall + 1}, testing.app.model.wave.line)")
+            kind = "start low" if slot == 0 else "0 low" if low > page_values.SAMPLE else "1 low"
+            least, most = page_values.WINDOWS[kind]
+            parts = ["bit 1", "bit 2", "bit 3", "bit 4", "bit 5", "bit 6", "bit 7", "bit 8", "EOM", "ACK"]
+            place = f"block {(slot + 9) // 10} {parts[(slot - 1) % 10]}"
+            where = "start bit" if slot == 0 else f"slot {slot}: {place} = {int(kind == '1 low')}"
+            window = page_values.WINDOWS["start total" if slot == 0 else "bit total"]
+            is_last = slot + 1 == len(line.slots(one["begin"], one["close"]))
+            whole = "" if is_last else f", total {total} of {window[0]}..{window[1]}"
+            t.same(f"{name}: slot {slot} of {one['line']}", read[:3],
+                   [f"{fall + 1} µs", f"CEC low {low} µs, from {fall} to {fall + low}", f"{where}, low {low} of {least}..{most}{whole}"])
+
+
+def words_are_the_standards(t, b):
+    """Each word of the page's own tables: the names of addresses (CEC, table 5), the causes of refusals, the endings."""
+    b.open(BARE)
+    b.js(HELPERS)
+
+    def reading(at, **fields):
+        return json.dumps({"line": f"{at} reading", "type": "reading", "begin": at, "close": at + 9000, **fields})
+    sixteen = [reading(60000 * i, ending="complete", frame=f"{i:x}>f standby", initiator=f"{i:x}", destination="f",
+                       bytes=f"{i:x}f36", verdict="ok") for i in range(16)]
+    load(b, "\n".join(sixteen))
+    t.same("the names of addresses", b.js("testing.shown(0).hints"),
+           [f"{i:x}, {name}: search for it" for i, name in enumerate(page_values.ADDRESSES)])
+    t.same("in sentences", b.js("testing.app.model.rows.map((row, index) => testing.shown(index)).filter(got => got.type === 'round')"
+                                ".map(got => got.tables.Blocks[0][2])"), [f"{page_values.in_words(f'{i:x}')} to all" for i in range(16)])
+    endings = [ending for ending in page_values.ENDINGS]
+    load(b, "\n".join(reading(60000 * i, ending=ending, bits="01") for i, ending in enumerate(endings)))
+    t.same("the endings", b.js("testing.app.model.rounds.map(o => hdminet.meaningOf(o, testing.app.model))"),
+           [page_values.ENDINGS[ending] for ending in endings])
+    events = [json.dumps({"line": f"{i} event", "type": "event", "at": i, "script_line": i + 1, "verdict": "refused", "cause": cause,
+                          "text": "press p1 play"}) for i, cause in enumerate(page_values.CAUSES)]
+    load(b, "\n".join(events))
+    t.same("the causes", b.js("testing.app.model.rows.map((row, index) => testing.shown(index).texts[0])"),
+           [f"event was refused: {words} at {i} µs." for i, words in enumerate(page_values.CAUSES.values())])
+    b.js("testing.app.showHelp()")
+    marks = b.js("[...document.querySelectorAll('#dialog table')].map(table => [...table.rows].map(tr => tr.textContent))")
+    b.js("document.getElementById('dialog').close()")
+    # By hand: what each mark of the chart means
+    for mark, means in [("→", "acknowledged (green)"), ("↔", "to all that nobody refused (blue)"), ("× at an end", "nobody acknowledged"),
+                        ("○", "held by nobody"), ("loop", "free, nobody took it; or taken"), ("red × out @n", "up to 4 it lost the arbitration"),
+                        ("◆ ◇", "◇ was refused"), ("⚠ n", "remarks of the audit")]:
+        t.holds(f"the help has {mark}", any(line.startswith(mark) and means in line for line in marks[0]), marks[0])
+
+
 def round_is_shown(t, what, got, page):
     run, one = page.run, page.row
     remarks, attempt = page.run.remarks(one), page.run.attempt(one)
     to, receivers = page.receivers()
     label = page_values.label(one)
-    is_open = bool(to) and to != "f" and not receivers and not page_values.is_poll(one) and (one["ending"] == "complete" or page_values.stopped(one))
+    is_drawn = not page_values.is_poll(one) and (one["ending"] == "complete" or page_values.stopped(one))
+    is_open = bool(to) and to != "f" and not receivers and is_drawn
     t.same(f"{what}: label", got["label"], f"{label} → {to}" if is_open else label)
     verdict = page_values.verdict(one)
     t.same(f"{what}: verdict", got["verdict"], verdict + (f"⚠ {len(remarks)}" if remarks else ""))
@@ -990,8 +1130,8 @@ def sources_are_plain(t, _):
 
 
 ALL = [sources_are_plain, verdicts_are_drawn, colours_differ, retries_are_folded, wave_is_drawn, other_lines_are_noticed,
-       capture_is_drawn, advice_is_shown, attempts_are_the_audits, values_are_the_programs,
-       failures_are_drawn, keys_reach_all, mouse_works, hostile_inputs_are_harmless,
+       capture_is_drawn, advice_is_shown, attempts_are_the_audits, words_are_the_standards, reports_are_shown, values_of_an_evening,
+       values_of_retries, values_of_a_capture, failures_are_drawn, keys_reach_all, mouse_works, hostile_inputs_are_harmless,
        inferences_are_the_programs, sentences_are_the_programs, dumps_are_read, files_may_be_dropped, pages_are_made,
        examples_have_pages,
        long_runs_are_fast]

@@ -366,6 +366,75 @@ class Page:
                 if logical(self.after[name]) != logical(self.before[name])]
 
 
+# docs/formats.md, the state line; CEC, Deck Info
+DECKS = {"11": "play", "14": "still", "17": "fast forward", "18": "fast reverse", "19": "no medium", "1a": "stop", "1b": "skip forward",
+         "1c": "skip reverse"}
+
+
+def state_cell(key, value, opcodes):
+    """A field of a state in the table of devices at the end."""
+    if value is None:
+        return MINUS
+    if key == "deck":
+        return DECKS[value]
+    if key in ("menu_language", "osd_text"):
+        return bytes.fromhex(value).decode()
+    if isinstance(value, bool):
+        return "on" if value else "off"
+    if isinstance(value, list):
+        return "+".join(one or MINUS for one in value)
+    if isinstance(value, dict):
+        return f"{opcodes.get(value['opcode'], value['opcode'])} from {value['initiator']}"
+    return str(value)
+
+
+def states_table(run):
+    states = [one for one in run.objects if one["type"] == "state"]
+    keys = [key for key in states[0] if key not in ("line", "type", "device", "kind")]
+    rows = [[key.replace("_", " "), *(state_cell(key, state[key], run.opcodes) for state in states)] for key in keys]
+    return [["", *run.devices], ["kind", *(run.kinds[name] for name in run.devices)], *rows]
+
+
+def talk_table(run, pages):
+    """Who sent what: rounds, and how many of them were taken."""
+    counts = {}
+    for page in pages:
+        one = page.row
+        who = " ".join(page.senders()) or "?"
+        if one["ending"] == "complete":
+            what = "poll" if len(one["bytes"]) == 2 else one["frame"].split(" ")[1]
+        else:
+            what = label(one) if stopped(one) else one["ending"]
+        found = counts.setdefault((who, what), [0, 0])
+        found[0] += 1
+        found[1] += one.get("verdict") in ("ack", "ok")
+    return {(who, what): tuple(found) for (who, what), found in counts.items()}
+
+
+def grid_row(page):
+    """A row of the table of rows: its time, who, to whom, what, verdict, addresses from here on, remarks."""
+    run, one = page.run, page.row
+    to, receivers = page.receivers()
+    attempt = run.attempt(one)
+    what = label(one) + "".join(f"; {page.why(out)}" for out in page.losers())
+    what += f"; attempt {attempt}" if attempt and attempt > 1 else ""
+    return [seconds(one["begin"]), ", ".join(page.senders()), "all" if to == "f" else ", ".join(receivers) or to, what, verdict(one),
+            ", ".join(page.claims()), "; ".join(remark["line"].strip() for remark in run.remarks(one))]
+
+
+CLASSES = ["ack", "ok", "nack", "refused", "broken", "poll", "event"]
+
+
+def class_of(one):
+    if one["type"] == "event":
+        return "event"
+    if stopped(one):
+        return stopped(one)
+    if one["ending"] != "complete":
+        return "broken"
+    return "poll" if is_poll(one) else one["verdict"]
+
+
 class PageOfCapture(Page):
     """What it shows of a reading: a lane is an address there, with the name and the place that it has told so far."""
 

@@ -1,6 +1,6 @@
 // The chart: time runs down, and a lifeline stands for each device. Only the rows in sight are in the document.
 
-import { duration, seconds, shortened, svg } from './elements.js';
+import { byId, duration, seconds, shortened, svg } from './elements.js';
 import { deviceAt } from './model.js';
 import { blockOf } from './slots.js';
 import { lowerBound } from './texts.js';
@@ -103,6 +103,12 @@ export class Chart {
     if (isAbove || isBelow) this.box.scrollTop = top - this.sightHeight / 3;
   }
 
+  /* Marks the row that is selected, where it is drawn. */
+  mark(row) {
+    for (const one of this.space.querySelectorAll('[aria-selected=true]')) one.setAttribute('aria-selected', 'false');
+    const group = byId(`row${row.index}`);
+    if (group) group.setAttribute('aria-selected', 'true');
+  }
   draw() {
     if (this.shown.length === 0) {
       this.heads.replaceChildren();

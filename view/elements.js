@@ -14,6 +14,7 @@ function filled(element, attributes, content) {
 }
 export const html = (tag, attributes, ...content) => filled(document.createElement(tag), attributes, content);
 export const svg = (tag, attributes, ...content) => filled(document.createElementNS(NS, tag), attributes, content);
+/** @type {(id: string) => any} */
 export const byId = id => document.getElementById(id);
 
 export const seconds = microseconds => (microseconds / 1e6).toFixed(6);

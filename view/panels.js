@@ -124,10 +124,12 @@ function widths(model, round) {
     if (!model.wave || round.ending === 'joined') return null;
     return dim('The wave is not the line that this was read of: another run, or pulses that --glitch left out.');
   }
-  const kinds = [
+  /** @type {[string, number[]][]} */
+  const windows = [
     ['start low', WINDOWS.startLow], ['start total', WINDOWS.startTotal], ['0 low', WINDOWS.zero],
     ['1 low', WINDOWS.one], ['bit total', WINDOWS.total],
-  ].map(([name, window]) => ({ name, window, seen: [] }));
+  ];
+  const kinds = windows.map(([name, window]) => ({ name, window, seen: [] }));
   const faults = [];
   slots.forEach((slot, i) => {
     const put = ({ name, window, seen }, width) => {

@@ -25,8 +25,10 @@ export const asList = value => (Array.isArray(value) ? value : []);
 
 const emptyRoom = () => ({ devices: [], plugs: [], script: new Map(), expectations: [] });
 
-/* An object of `run --json --room` that stands before the trace. */
-function addHead({ type, device, kind, parent, port }, room) {
+/** An object of `run --json --room` that stands before the trace.
+    @param {any} object */
+function addHead(object, room) {
+  const { type, device, kind, parent, port } = object;
   if (type === 'device') room.devices.push({ name: device, kind });
   if (type === 'plug') room.plugs.push([device, parent, port]);
 }

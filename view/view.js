@@ -17,6 +17,8 @@ const COLOURS = ['ink', 'bg', 'dim', 'rule', 'low', 'ack', 'ok', 'nack', 'refuse
 const STRIP = 34;
 const MOST_EXPORTED = 5000; // rows
 const LATER = 1 << 20; // a wave of so many characters is read after the first picture
+/** @type {(target: any) => boolean} */
+const isInput = target => /^(INPUT|TEXTAREA|SELECT)$/.test(target.tagName);
 const isFailed = row => FAILED.includes(row.cls) || (row.type === 'event' && row.o.verdict !== 'ok');
 
 class App {
@@ -220,9 +222,9 @@ class App {
     }
     this.selected = row;
     if (!keepsPanel && !(this.panel === 'report' && this.banded)) this.panel = 'selected';
-    this.chart.drawn = null;
     this.chart.reveal(row);
     this.chart.draw();
+    this.chart.mark(row);
     byId('chart').setAttribute('aria-activedescendant', `row${row.index}`);
     if (!keepsWave && this.model.wave) {
       if (row.type === 'round') this.wave.showRound(row.o);
@@ -245,6 +247,7 @@ class App {
   /* Marks the window of a test, and selects what was seen. */
   showTest(test) {
     this.banded = test;
+    this.chart.drawn = null;
     this.panel = 'report';
     const { rows } = this.model;
     const { window } = test;
@@ -450,8 +453,7 @@ class App {
       if (this.chart.shown[0]) this.select(this.chart.shown[0]);
       return;
     }
-    const isTyping = /INPUT|TEXTAREA/.test(target.tagName);
-    if (isTyping || event.ctrlKey || event.metaKey || event.altKey || byId('dialog').open) return;
+    if (isInput(target) || event.ctrlKey || event.metaKey || event.altKey || byId('dialog').open) return;
     const isOfChart = /^(BODY|SECTION)$/.test(target.tagName);
     const keys = { ...this.pageKeys(), ...(isOfChart ? this.chartKeys() : {}) };
     if (!Object.hasOwn(keys, event.key)) return;
@@ -554,17 +556,17 @@ function listen(app) {
   onClick('help', () => app.showHelp());
   onClick('strip', event => app.selectAt(event.offsetX / event.target.clientWidth));
   byId('search').addEventListener('input', () => app.filter());
-  byId('file').addEventListener('change', event => {
+  byId('file').addEventListener('change', (/** @type {any} */ event) => {
     byId('dialog').close();
     app.loadFiles(event.target.files);
     event.target.value = '';
   });
   document.addEventListener('keydown', event => app.key(event));
   document.addEventListener('paste', event => {
-    if (!/INPUT|TEXTAREA/.test(event.target.tagName)) app.loadPasted(event.clipboardData.getData('text'));
+    if (!isInput(event.target)) app.loadPasted(event.clipboardData.getData('text'));
   });
   for (const kind of ['dragenter', 'dragover', 'dragleave', 'drop']) {
-    document.addEventListener(kind, event => {
+    document.addEventListener(kind, (/** @type {any} */ event) => {
       event.preventDefault();
       byId('drop').hidden = kind === 'drop' || (kind === 'dragleave' && !event.relatedTarget);
       if (kind === 'drop') app.loadFiles(event.dataTransfer.files);
