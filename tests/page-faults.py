@@ -26,8 +26,7 @@ PLANTS = [
     ("times with five decimals", "elements.js", "toFixed(6)", "toFixed(5)", ROOM),
     ("durations ten times too large", "elements.js", "Math.round(microseconds / 100) / 10", "Math.round(microseconds / 10) / 10", ROOM),
     ("heads of lanes at the begin", "chart.js", "const at = now ? (now.until ?? now.at) : 0;", "const at = 0;", ROOM),
-    ("the strip's click mirrored", "view.js", "app.selectAt(event.offsetX / event.target.clientWidth)",
-     "app.selectAt(1 - event.offsetX / event.target.clientWidth)", ROOM),
+    ("the strip's click mirrored", "strip.js", "selectAt(event.offsetX / this.width)", "selectAt(1 - event.offsetX / this.width)", ROOM),
     ("idle time from a third of a second on", "model.js", "const FOLDED_IDLE = 250000;", "const FOLDED_IDLE = 350000;", EVENING),
     ("an arbitration one slot too high", "chart.js", "at bit ${slot} of", "at bit ${slot + 1} of", ROOM),
     ("attempts that are not the audit's", "model.js", "row.attempt = said ? said.attempt : null;",
@@ -67,7 +66,7 @@ PLANTS = [
     ("the number of an operand", "panels.js", "`operand ${i - 1}`", "`operand ${i}`", ROOM),
     ("the free time before a round", "slots.js", "wave.line.changes[i - 1] : null", "wave.line.changes[i - 2] : null", ROOM),
     ("how many rounds there are", "view.js", "counted(rounds.length, 'round')", "counted(rounds.length + 1, 'round')", ROOM),
-    ("where a round is on the strip", "view.js", "pen.fillRect(x(row.at), 11,", "pen.fillRect(x(row.until ?? row.at), 11,", ROOM),
+    ("where a round is on the strip", "strip.js", "const from = this.x(row.at);\n      const to", "const from = this.x(row.at + 2e5);\n      const to", ROOM),
     ("who sends to whom, in a block", "panels.js", "`${addressInWords(byte[0])} to ${isBroadcast",
      "`${addressInWords(byte[1])} to ${isBroadcast", ROOM),
 ]

@@ -249,10 +249,12 @@ def colours_differ(t, b):
         colours = b.js("hdminet.app.colours")
         verdicts = [colours[name] for name in ("ack", "ok", "nack", "refused", "broken", "poll", "event")]
         t.same(f"{theme}: colours of their own", len(set(verdicts)), len(verdicts))
-        for colour in [*verdicts, colours["ink"], colours["dim"]]:
-            dark, light = sorted([luminance(colour), luminance(colours["bg"])])
-            contrast = (light + 0.05) / (dark + 0.05)
-            t.holds(f"{theme}: {colour} on {colours['bg']}", contrast >= 4.5, f"{contrast:.2f}")
+        for below in ("bg", "panel", "select", "band"):
+            ground = b.js(f"getComputedStyle(document.documentElement).getPropertyValue('--{below}').trim()")
+            for colour in [*verdicts, colours["ink"], colours["dim"]]:
+                dark, light = sorted([luminance(colour), luminance(ground)])
+                contrast = (light + 0.05) / (dark + 0.05)
+                t.holds(f"{theme}: {colour} on {below}", contrast >= 4.5, f"{contrast:.2f}")
     b.js("hdminet.app.setTheme('light')")
 
 
@@ -383,7 +385,7 @@ def values_of_room(t, b, name, room):
     run = page_values.Run(program, room=room)
     show(b, written(name, room))
     rows_are_shown(t, b, name, run, page_values.Page)
-    hints = [f"{one}, {run.kinds[one]}: search for it" for one in run.devices]
+    hints = [f"{one}, {run.kinds[one]}: search for what it sends, and then for what it is sent" for one in run.devices]
     t.same(f"{name}: hints", b.js("testing.shown(0).hints"), hints)
     panels_are_shown(t, b, name, run)
     wave_is_shown(t, b, name, run)
@@ -409,7 +411,7 @@ def values_of_a_capture(t, b):
     run = page_values.Run(program, capture=text, flags=wide, changes=[at for at, level in rows if level != "end"])
     show(b, written("faulty.edges", text), *wide)
     rows_are_shown(t, b, "faulty.edges", run, page_values.PageOfCapture)
-    hints = [f"{digit}, {page_values.ADDRESSES[int(digit, 16)]}: search for it" for digit in run.lanes()]
+    hints = [f"{digit}, {page_values.ADDRESSES[int(digit, 16)]}: search for what it sends, and then for what it is sent" for digit in run.lanes()]
     t.same("faulty.edges: hints", b.js("testing.shown(0).hints"), hints)
 
 
@@ -543,7 +545,7 @@ def words_are_the_standards(t, b):
                        bytes=f"{i:x}f36", verdict="ok") for i in range(16)]
     load(b, "\n".join(sixteen))
     t.same("the names of addresses", b.js("testing.shown(0).hints"),
-           [f"{i:x}, {name}: search for it" for i, name in enumerate(page_values.ADDRESSES)])
+           [f"{i:x}, {name}: search for what it sends, and then for what it is sent" for i, name in enumerate(page_values.ADDRESSES)])
     t.same("in sentences", b.js("testing.app.model.rows.map((row, index) => testing.shown(index)).filter(got => got.type === 'round')"
                                 ".map(got => got.tables.Blocks[0][2])"), [f"{page_values.in_words(f'{i:x}')} to all" for i in range(16)])
     endings = [ending for ending in page_values.ENDINGS]
@@ -627,11 +629,11 @@ def strip_is_shown(t, b, name, run):
             continue
         at, pixel = b.js(f"testing.clicked({number})")
         t.holds(f"{name}: a click on the strip", abs(at - row["begin"]) <= pixel, [at, row])
-    ink = b.js("""(() => { const { app } = testing; const { model } = app; const strip = app.strip;
+    ink = b.js("""(() => { const { app } = testing; const { model } = app; const strip = app.strip.picture;
       const pen = strip.getContext('2d');
       return model.rows.filter(row => row.type === 'round' && row.until - row.at > model.end / 200).map(row => {
         const x = Math.round(((row.at + row.until) / 2 / model.end) * strip.width);
-        return pen.getImageData(x, Math.round(18 * strip.height / 34), 1, 1).data[3] > 0; }); })()""")
+        return pen.getImageData(x, Math.round(18 * devicePixelRatio), 1, 1).data[3] > 0; }); })()""")
     t.holds(f"{name}: rounds are on the strip", all(ink), ink)
 
 
@@ -709,8 +711,13 @@ def keys_reach_all(t, b):
     for _ in range(40):
         b.key("Tab")
         reached.add(b.js("document.activeElement.id"))
-    t.holds("Tab reaches all", {"search", "open", "export", "theme", "help", "chart", "panel", "line", "tab-table"} <= reached,
+    t.holds("Tab reaches all", {"search", "open", "export", "theme", "help", "chart", "panel", "line", "tab-selected"} <= reached,
             sorted(reached))
+    b.js("testing.app.openPanel('selected'), document.getElementById('tab-selected').focus()")
+    for key, wanted in [("ArrowRight", "tab-look"), ("ArrowRight", "tab-table"), ("ArrowLeft", "tab-look"), ("End", "tab-notes"),
+                        ("ArrowRight", "tab-selected")]:
+        b.key(key)
+        t.same(f"tabs by {key}", b.js("[document.activeElement.id, document.querySelector('#tabs [aria-selected=true]').id]"), [wanted] * 2)
     b.js("testing.app.openPanel('table')")
     rows = b.js("[...document.querySelectorAll('#panel tr')].slice(1).map(tr => [...tr.cells].map(cell => cell.textContent))")
     t.same("the table has each row", len(rows), b.js("testing.app.chart.shown.length"))
@@ -724,6 +731,96 @@ def keys_reach_all(t, b):
     b.js("testing.app.copyMermaid()")
     t.holds("Mermaid", "L0->>L4: give-osd-name ack" in b.js("testing.app.exportedText"),
             b.js("testing.app.exportedText.slice(0, 600)"))
+
+
+def searches_find(t, b):
+    """What a search finds of an evening, against the program's objects."""
+    show(b, os.path.join(EXAMPLES, "living-room-evening.net"))
+    rounds = [json.loads(line) for line in program(example("living-room-evening.net"), "run", "--json").splitlines()]
+    rounds = [one for one in rounds if one["type"] == "round"]
+    texts = {"op:82": lambda one: one.get("bytes", "")[2:4] == "82",
+             "op:active-source": lambda one: one.get("bytes", "")[2:4] == "82",
+             "from:amp": lambda one: "amp" in one["by"],
+             "from:5": lambda one: one.get("initiator") == "5",
+             "to:0": lambda one: one.get("destination") == "0" and one.get("initiator") != "0",
+             "to:tv": lambda one: one.get("destination") == "0" and one.get("initiator") != "0",
+             "to:all": lambda one: one.get("destination") == "f",
+             "to:all not from:amp": lambda one: one.get("destination") == "f" and "amp" not in one["by"],
+             "t:3.1..3.2": lambda one: one["close"] >= 3100000 and one["begin"] <= 3200000,
+             "t:..0.5": lambda one: one["begin"] <= 500000,
+             "t:0.05": lambda one: page_values.seconds(one["begin"]).startswith("0.05"),
+             "0.0507": lambda one: "0.0507" in page_values.seconds(one["begin"]),
+             "complete not standby": lambda one: one["ending"] == "complete" and "standby" not in one["line"]}
+    for text, holds in texts.items():
+        b.js(f"testing.app.searchFor({json.dumps(text)})")
+        found = b.js("testing.app.chart.shown.filter(row => row.type === 'round').map(row => row.o.line)")
+        wanted = [one["line"] for one in rounds if holds(one)]
+        t.same(f"search {text}", found, wanted)
+        t.holds(f"there is something for {text}", wanted)
+    click = "document.querySelectorAll('#heads .row')[1].dispatchEvent(new MouseEvent('click', { bubbles: true }))"
+    b.js("testing.app.searchFor('')")
+    amp = b.js("testing.app.model.lanes[1].name")
+    for wanted in (f"from:{amp}", f"to:{amp}", ""):
+        b.js(click)
+        t.same("a click on a head", b.js("document.getElementById('search').value"), wanted)
+    b.js("document.getElementById('chart').focus()")
+    b.key("g")
+    for key in "3.127":
+        b.key(key)
+    b.key("Enter")
+    begins = [one["begin"] for one in rounds]
+    t.holds("g goes to a time", abs(b.js("testing.app.selected.at") - 3127000) <= min(abs(at - 3127000) for at in begins), begins)
+    time.sleep(0.5)
+    moment = b.js("location.hash")
+    t.same("the moment is in the address", moment, b.js("`#t=${(testing.app.selected.at / 1e6).toFixed(6)}&sel=${testing.app.selected.index}`"))
+    page = os.path.join(ROOM, "living-room-evening.net.html")
+    b.call("Page.navigate", url=f"file://{BARE}")
+    b.open(f"{page}#t=0.050700&sel=1")
+    t.same("an address with a moment", b.js("hdminet.app.selected.at"), 50700)
+    b.js("location.hash = '#t=3.1'")
+    time.sleep(0.2)
+    t.holds("another moment", abs(b.js("hdminet.app.selected.at") - 3100000) < 200000, b.js("hdminet.app.selected.at"))
+    b.js(HELPERS)
+    b.js("testing.app.showWave()")
+    left, width = b.js("(box => [box.x, box.width])(document.getElementById('strip').getBoundingClientRect())")
+    top = b.js("document.getElementById('strip').getBoundingClientRect().y + 10")
+    at = b.js("testing.app.selected.at")
+    b.mouse("mousePressed", left + width * 0.1, top, button="left", clickCount=1)
+    for part in (0.3, 0.6, 0.8):
+        b.mouse("mouseMoved", left + width * part, top, button="left", buttons=1)
+    b.mouse("mouseReleased", left + width * 0.8, top, button="left", clickCount=1)
+    b.settle()
+    sight = b.js("testing.app.chart.sight().map(i => testing.app.chart.shown[i].at / testing.app.model.end)")
+    t.holds("the strip's window is dragged", sight[0] < 0.85 and sight[1] > 0.75, sight)
+    t.same("and selects nothing", b.js("testing.app.selected.at"), at)
+
+
+def other_sizes_fit(t, b):
+    """A telephone: the panel below the chart, nothing wider than the window, the help on the first screen; and all rows on paper."""
+    page = page_of(os.path.join(EXAMPLES, "living-room-evening.net"))
+    try:
+        b.resize(390, 800)
+        b.open(page)
+        b.js(HELPERS)
+        boxes = b.js("['chart', 'panel', 'wave'].map(id => (box => [box.x, box.y, box.width])"
+                     "(document.getElementById(id).getBoundingClientRect()))")
+        t.holds("the chart has the window's width", boxes[0][2] > 350, boxes)
+        t.holds("the panel stands below", boxes[1][1] > boxes[0][1] + 200 and boxes[1][2] > 350, boxes)
+        t.holds("nothing is wider", b.js("document.documentElement.scrollWidth") <= 390)
+        b.open(BARE)
+        help_at = b.js("document.querySelector('.empty h2').getBoundingClientRect().y")
+        t.holds("the help stands on the first screen", 0 < help_at < 500, help_at)
+    finally:
+        b.resize(1440, 900)
+    b.open(page)
+    rows = b.js("hdminet.app.model.rows.length")
+    drawn_rows = b.js("(() => { dispatchEvent(new Event('beforeprint'));"
+                      " const count = document.querySelectorAll('#space .row[data-row]').length;"
+                      " dispatchEvent(new Event('afterprint')); return count; })()")
+    t.same("all rows are printed", drawn_rows, b.js("hdminet.app.chart.shown.length"))
+    t.holds("there are many", rows > 40, rows)
+    b.call("Page.printToPDF", paperWidth=8.3, paperHeight=11.7)
+    t.holds("after that the chart is as before", b.js("document.querySelectorAll('#space .row[data-row]').length") <= rows)
 
 
 def mouse_works(t, b):
@@ -1131,7 +1228,7 @@ def sources_are_plain(t, _):
 
 ALL = [sources_are_plain, verdicts_are_drawn, colours_differ, retries_are_folded, wave_is_drawn, other_lines_are_noticed,
        capture_is_drawn, advice_is_shown, attempts_are_the_audits, words_are_the_standards, reports_are_shown, values_of_an_evening,
-       values_of_retries, values_of_a_capture, failures_are_drawn, keys_reach_all, mouse_works, hostile_inputs_are_harmless,
+       values_of_retries, values_of_a_capture, failures_are_drawn, keys_reach_all, searches_find, other_sizes_fit, mouse_works, hostile_inputs_are_harmless,
        inferences_are_the_programs, sentences_are_the_programs, dumps_are_read, files_may_be_dropped, pages_are_made,
        examples_have_pages,
        long_runs_are_fast]

@@ -314,15 +314,6 @@ function addRows(model) {
   });
 }
 
-/* What a search looks at in a row. */
-export function findIn(row) {
-  if (row.find === undefined) {
-    const { line = '', bytes = '' } = row.o || {};
-    row.find = [line.slice(0, 300), row.text, row.cls, bytes].join(' ').toLowerCase();
-  }
-  return row.find;
-}
-
 /* A sender stops where a block was not taken: the round is then silent after whole blocks, and the last bit says so. */
 function stoppedBy(o, destination) {
   const isWhole = o.ending === 'silent' && o.bits.length > 0 && o.bits.length % 10 === 0;
@@ -373,7 +364,7 @@ function receiversOf(model, row) {
   return model.lanes.map((_, lane) => lane).filter(lane => !row.from.includes(lane) && isReceiver(lane));
 }
 
-/* Which attempt this is says the audit. It is tied to the one before it. */
+/* Which attempt this is says the audit. It is tied to the one before it; so are bad starts one after another. */
 function tieAttempt(row, lastOf) {
   const sender = senderOf(row.o);
   const said = [...row.notes, ...row.remarks].find(({ attempt }) => attempt !== null);
@@ -383,6 +374,9 @@ function tieAttempt(row, lastOf) {
   row.first.attempts = row.attempt;
   if (said) lastOf.set(sender, row);
   else lastOf.delete(sender);
+  if (row.o.ending !== 'bad-start') lastOf.delete('bad-start');
+  else if (lastOf.has('bad-start')) row.first = lastOf.get('bad-start');
+  else lastOf.set('bad-start', row);
 }
 
 function describeEvent(model, row, holders) {

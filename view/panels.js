@@ -271,22 +271,24 @@ function drawReport(app, model) {
     tests.length > 0 && html('p', {}, count),
     ordered.map(test => [testButton(app, test), app.banded === test && testDetails(app, test)]),
     tests.length > 0 && model.rounds.length === 0 && dim(alone),
-    stretches.length > 0 && stretchTable(model),
+    stretches.length > 0 && stretchTable(app, model),
   ];
 }
 
 /* A sweep: a bar for each test over the range of instants. */
 const BAR_WIDTH = 1000;
-export function drawSweep({ stretches, room }) {
+export function drawSweep(app, { stretches, room }) {
   const { from } = stretches[0];
   const { to } = stretches[stretches.length - 1];
   const x = instant => ((instant - from) / (to - from || 1)) * (BAR_WIDTH - 5);
   const shape = { class: 'sweep', viewBox: `0 0 ${BAR_WIDTH} 20`, preserveAspectRatio: 'none', role: 'img' };
   const bar = test => svg('svg', { ...shape, 'aria-label': `test ${test + 1}` }, stretches.map(stretch => {
     const holds = stretch.holds[test];
-    const place = { x: x(stretch.from), y: 0, width: Math.max(x(stretch.to) - x(stretch.from), 5), height: 20 };
+    const [y, height] = holds ? [0, 20] : [8, 12]; // what fails is lower
+    const place = { x: x(stretch.from), y, width: Math.max(x(stretch.to) - x(stretch.from), 5), height };
     const title = svg('title', {}, `${holds ? 'holds' : 'fails'} from ${stretch.from} to ${stretch.to}`);
-    return svg('rect', { ...place, style: `fill:var(--${holds ? 'ack' : 'broken'})` }, title);
+    const colour = `fill:var(--${holds ? 'ack' : 'broken'})`;
+    return svg('rect', { ...place, style: colour, click: () => app.openInstant(stretch.from) }, title);
   }));
   const expectation = test => (room && room.expectations[test] ? `  ${room.expectations[test]}` : '');
   return [
@@ -296,9 +298,10 @@ export function drawSweep({ stretches, room }) {
   ];
 }
 /* The same in words. */
-function stretchTable({ stretches }) {
+function stretchTable(app, { stretches }) {
   const mark = holds => (holds ? '✓ holds' : bad('✗ fails'));
-  const rows = stretches.map(({ from, to, holds }) => [span(from, to), ...holds.map(mark)]);
+  const at = ({ from, to }) => (app.hasInstant(from) ? link(span(from, to), () => app.openInstant(from)) : span(from, to));
+  const rows = stretches.map(stretch => [at(stretch), ...stretch.holds.map(mark)]);
   return table(rows, ['instants, µs', ...stretches[0].holds.map((_, test) => `test ${test + 1}`)]);
 }
 
@@ -375,8 +378,7 @@ function drawTalk(app, model) {
   }
   const sorted = [...counts.values()].sort((a, b) => (a.who < b.who ? -1 : a.who > b.who ? 1 : b.rounds - a.rounds));
   const search = ({ who, what }) => {
-    if (what === 'poll') return `poll ${who}`;
-    return model.isCapture ? `${what} ${who}>` : `${what} by ${who}`;
+    return `${what} ${who.split(' ').map(name => `from:${name}`).join(' ')}`;
   };
   const line = (count, i) => [
     i > 0 && sorted[i - 1].who === count.who ? '' : count.who, link(count.what, () => app.searchFor(search(count))), count.rounds,
@@ -455,12 +457,21 @@ export function help() {
     ['Enter', 'unfold attempts, or show the wave of the round'],
     ['n N', 'next and previous row that is nack, refused or broken, or a failed test'],
     ['/', 'search; Escape clears'],
+    ['g Ctrl-G', 'go to a time'],
     ['w c', 'to the wave, to the chart; Tab to all parts'],
     ['+ - ← → 0 f', 'in the wave: zoom, pan, all, the selected round'],
     [', . < >', 'in the wave: cursor A and B to the edge before, after'],
     ['o e m t ?', 'open, SVG, Mermaid, light or dark, this'],
   ];
+  const searches = [
+    ['words', 'rows that have all of them: opcode, device, verdict, time, line'],
+    ['from:amp to:amp', 'what a device sends, or is sent; also an address, from:5, and to:all'],
+    ['op:82 op:standby', 'frames with an opcode'],
+    ['t:3.1..3.2', 'rows of a time; also t:3.1.., t:..3.2, t:3.1'],
+    ['not to:all', 'rows that do not meet the next word'],
+  ];
   return [
-    html('h2', {}, 'Marks'), table(marks), html('h2', {}, 'Keys'), table(keys), html('h2', {}, 'Data'), html('pre', {}, COMMANDS),
+    html('h2', {}, 'Marks'), table(marks), html('h2', {}, 'Search'), table(searches), html('h2', {}, 'Keys'), table(keys),
+    html('h2', {}, 'Data'), html('pre', {}, COMMANDS),
   ];
 }

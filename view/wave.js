@@ -3,6 +3,7 @@
 import { CHARACTER } from './chart.js';
 import { seconds, shortened } from './elements.js';
 import { blockOf, isWithin, lowWindow, partOf, pullersAt, SLOT, slotsOf, WINDOWS } from './slots.js';
+import { stepOf } from './strip.js';
 import { lowerBound } from './texts.js';
 
 const WIRE = 24; // height of a wire, in pixels
@@ -313,9 +314,7 @@ export class Wave {
   drawRuler() {
     const { pen } = this;
     const { colours } = this.app;
-    const wanted = this.perPixel * 110;
-    const power = Math.pow(10, Math.floor(Math.log10(wanted)));
-    const step = [1, 2, 5, 10].map(k => k * power).find(k => k >= wanted);
+    const step = stepOf(this.perPixel * 110);
     pen.fillStyle = colours.dim;
     pen.strokeStyle = colours.rule;
     for (let t = Math.ceil(Math.max(this.from, 0) / step) * step; t <= this.to; t += step) {
@@ -349,6 +348,7 @@ export class Wave {
       const label = round.ending === 'complete' ? `${round.frame} ${round.verdict}` : round.row.text;
       const shownFrom = Math.max(from, NAMES);
       const fitting = Math.floor((Math.min(to, this.width) - shownFrom - 8) / CHARACTER);
+      pen.fillStyle = colours.ink;
       if (fitting > 2) pen.fillText(shortened(label, fitting), shownFrom + 4, top + 9);
       if (slotPixels > 3.2) this.drawSlots(round, slotPixels);
     }
