@@ -14,7 +14,7 @@ import tempfile
 
 TOP = os.path.dirname(os.path.dirname(os.path.realpath(__file__)))
 ROOM, CAPTURE, WORDS, REPORT = "values_of_retries", "values_of_a_capture", "words_are_the_standards", "reports_are_shown"
-EVENING = "values_of_an_evening"
+EVENING, LOOSE = "values_of_an_evening", "values_of_a_loose_device"
 
 # What is wrong, the file of view/, what stands there and what is planted, and the test that is to fail.
 PLANTS = [
@@ -51,9 +51,9 @@ PLANTS = [
      "row.notes.length > 0 && svg('tspan', { class: 'warn', dx: 8 }, `⚠ ${row.notes.length}`)", ROOM),
     ("times of the table, at the close", "panels.js", "    seconds(row.at), names(row.from || []),",
      "    seconds(row.until ?? row.at), names(row.from || []),", ROOM),
-    ("what a deck does", "panels.js", "11: 'play', 14: 'still'", "11: 'still', 14: 'play'", EVENING),
+    ("what a deck does", "words.js", "11: 'play', 14: 'still'", "11: 'still', 14: 'play'", LOOSE),
     ("what counts as taken", "panels.js", "if (round.verdict === 'ack' || round.verdict === 'ok')", "if (round.verdict)", ROOM),
-    ("who hears what is for all", "model.js", "return model.isCapture || isJoined;", "return true;", ROOM),
+    ("who hears what is for all", "model.js", "return model.isCapture || isJoined;", "return true;", LOOSE),
     ("an address in the chart that is the last one", "model.js", "text: shown || '–', was: lane.shown });\n      lane.shown",
      "text: lane.shown || '–', was: lane.shown });\n      lane.shown", ROOM),
     ("high and low", "wave.js", "? 'low' : 'high';", "? 'high' : 'low';", ROOM),

@@ -1,10 +1,12 @@
 #!/usr/bin/env python3
 """page.py BROWSER ROOM: the tests of tests/page.sh. ROOM is a folder for what they make; HDMINET names the program."""
+import http.client
 import json
 import os
 import random
 import re
 import signal
+import socket
 import subprocess
 import sys
 import time
@@ -389,6 +391,7 @@ def values_of_room(t, b, name, room):
     t.same(f"{name}: hints", b.js("testing.shown(0).hints"), hints)
     panels_are_shown(t, b, name, run)
     wave_is_shown(t, b, name, run)
+    room_is_shown(t, b, name, run)
     strip_is_shown(t, b, name, run)
 
 
@@ -400,6 +403,47 @@ def values_of_an_evening(t, b):
 def values_of_retries(t, b):
     """Attempts, a lost arbitration, refusals, pulses, and devices that lose their place."""
     values_of_room(t, b, "retries.net", RETRIES)
+
+
+# A device that hangs nowhere, and a deck that plays.
+LOOSE = """device tv tv 4
+device p1 player 0
+device p2 player 0
+plug p1 tv 1
+script
+at 2000000 press p1 play
+at 2500000 plug p2 tv 2
+at 3500000 unplug p1
+end 4000000
+"""
+
+
+def values_of_a_loose_device(t, b):
+    """Who hangs nowhere hears nothing; a deck that plays."""
+    values_of_room(t, b, "loose.net", LOOSE)
+    t.same("the boxes of the room at the end", b.js(
+        "testing.app.openPanel('room'), testing.app.goTo(testing.app.chart.shown.length - 1),"
+        " [...document.querySelectorAll('.map g[data-device]')].map(box => [...box.querySelectorAll('text')].map(one => one.textContent))"),
+           [["tv", "0 0.0.0.0", "tv on"], ["p1", "not joined", "player on"], ["p2", "8 2.0.0.0", "player on"]])
+    b.js("testing.app.select(testing.rowOf('active-source 1.0.0.0'))")
+    t.same("the active source and its way", b.js("['.active text', '.way + text', '.sending text'].map(selector =>"
+                                                " document.querySelector(`.map ${selector}`).textContent)"),
+           ["▶ p1 ●", "port 1", "▶ p1 ●"])
+    changed = b.js("[...document.querySelectorAll('#panel .changed')].map(cell => [cell.parentNode.cells[0].textContent,"
+                   " cell.textContent, cell.title])")
+    t.holds("what the row changed", ["active source", "1.0.0.0", "was –"] in changed, changed)
+
+
+def room_is_shown(t, b, name, run):
+    """Each device's state after each row, in the panel of the room, is what the program's session says."""
+    got = b.js("(testing.app.openPanel('room'), testing.app.model.rows.map(row => { testing.app.select(row); return " + TABLE + "[0]; }))")
+    for number, (row, cells) in enumerate(zip(run.rows, got)):
+        if row["type"] in ("round", "event"):
+            after = run.states[number][1]
+            keys = [key for key in after[run.devices[0]] if key not in ("line", "type", "device", "kind")]
+            t.same(f"{name}: the room after {row['line']}", cells[1:], [
+                [key.replace("_", " "), *(page_values.state_cell(key, after[device][key], run.opcodes) for device in run.devices)]
+                for key in keys])
 
 
 def values_of_a_capture(t, b):
@@ -793,6 +837,161 @@ def searches_find(t, b):
     sight = b.js("testing.app.chart.sight().map(i => testing.app.chart.shown[i].at / testing.app.model.end)")
     t.holds("the strip's window is dragged", sight[0] < 0.85 and sight[1] > 0.75, sight)
     t.same("and selects nothing", b.js("testing.app.selected.at"), at)
+
+
+class Live:
+    """tools/look --live of a file, and its address."""
+
+    def __init__(self, *arguments, **how):
+        self.process = subprocess.Popen([os.path.join(TOP, "tools/look"), "--live", *arguments], stdout=subprocess.PIPE, text=True,
+                                        env={**os.environ, "HDMINET_OPEN": "true"}, start_new_session=True, **how)
+        self.address = self.process.stdout.readline().split(" ")[1].strip()
+        self.host, self.port = re.search(r"http://([\d.]+):(\d+)/", self.address).groups()
+
+    def asked(self, method, path, body=None, **headers):
+        """The status with which a request is answered, and what it gives."""
+        connection = http.client.HTTPConnection(self.host, int(self.port), timeout=60)
+        connection.putrequest(method, path, skip_host="Host" in headers)
+        for name, value in {"Content-Length": str(len(body or b"")), **headers}.items():
+            connection.putheader(name, value)
+        connection.endheaders(body)
+        try:
+            found = connection.getresponse()
+            return found.status, found.read()
+        finally:
+            connection.close()
+
+    def end(self, sent=signal.SIGTERM):
+        self.process.send_signal(sent)
+        self.process.wait(30)
+        self.process.stdout.close()
+
+
+def until(b, code, patience=60):
+    """Waits until something holds in the page."""
+    ends = time.monotonic() + patience
+    while not b.js(code):
+        if time.monotonic() > ends:
+            return False
+        time.sleep(0.05)
+    return True
+
+
+LIVE = """window.edit = text => {
+  const { area } = hdminet.live;
+  area.value = text;
+  area.dispatchEvent(new Event('input'));
+  return new Promise(done => {
+    const before = performance.getEntriesByName('shown').length;
+    const look = () => (performance.getEntriesByName('shown').length > before ? done(true) : setTimeout(look, 20));
+    look();
+  });
+}; true"""
+
+
+def live_page_runs(t, b):
+    """tools/look --live: the text is run as it is edited; what is selected stays; a fault has its line; the file's changes come."""
+    room = example("first-path.net")
+    path = written("live.net", room)
+    live = Live(path)
+    try:
+        b.open(live.address)
+        b.js(HELPERS)
+        until(b, "performance.getEntriesByName('shown').length > 0")
+        b.js(LIVE)
+        lines = "testing.app.model.rows.filter(row => row.o && row.type !== 'end').map(row => row.o.line)"
+        t.same("the text", b.js("hdminet.live.area.value"), room)
+
+        def told(text):
+            return [line for line in program(text, "run").splitlines() if not re.match(r"state |\d+ end", line)]
+        t.same("it is run", b.js(lines), told(room))
+        b.js("testing.app.select(testing.rowOf('active-source')), testing.app.openPanel('room')")
+        draw = random.Random("edits")
+        for number in range(12):
+            edited = room.replace("at 1000000 press p1 play", f"at {draw.randrange(1000000, 1300000)} press p1 play")
+            b.js(f"edit({json.dumps(edited)})")
+            t.same(f"edit {number}", b.js(lines), told(edited))
+        t.same("what is selected stays, and the panel", b.js("[testing.app.selected.o.frame, testing.app.panel]"),
+               ["4>f active-source 1.0.0.0", "room"])
+        b.js(f"edit({json.dumps(room.replace('press', 'pres'))})")
+        fault = b.js("[document.querySelector('#source .fault').textContent, document.querySelector('#source .gutter .at').textContent,"
+                     " testing.app.model.rounds.length > 0]")
+        number = room.split("\n").index("at 1000000 press p1 play") + 1
+        t.holds("a fault in the words of --explain", "did you mean `press`?" in fault[0], fault)
+        t.same("its line, and the last good run stays", fault[1:], [str(number), True])
+        b.js(f"edit({json.dumps(room)})")
+        written("live.net", room.replace("1000000 press", "1100000 press"))
+        t.holds("a change of the file comes by itself", until(b, "hdminet.live.area.value.includes('1100000 press')"
+                " && testing.app.model.rounds.some(o => o.begin === 1100000)"))
+        b.js("(area => { const at = area.value.indexOf('at 1100000'); area.setSelectionRange(at, at); area.click(); })(hdminet.live.area)")
+        t.same("a click on a line selects its row", b.js("testing.app.selected.text"), "press p1 play")
+        t.same("and marks it", b.js("document.querySelector('#source .gutter .is').textContent"), str(number))
+        # An answer that comes after a later one is not shown
+        b.js("""(() => { const plain = window.fetch; let first = true;
+          window.fetch = async (...all) => { const slow = first; first = false; const answer = await plain(...all);
+            if (slow) await new Promise(done => setTimeout(done, 600)); return answer; }; })()""")
+        late, later = (room.replace("1000000 press", f"{at} press") for at in (1200000, 1300000))
+        b.js(f"(async () => {{ const {{ live }} = hdminet; live.area.value = {json.dumps(late)}; const one = live.run(true);"
+             f" live.area.value = {json.dumps(later)}; await live.run(true); await one; }})()")
+        t.same("an answer that comes late is ignored", b.js("testing.app.model.rounds.filter(o => o.begin >= 1000000)[0].begin"), 1300000)
+        t.same("nothing else is asked", [fault for fault in b.faults() if not fault.startswith(f"network: {live.address}")], [])
+    finally:
+        live.end()
+    capture = Live(written("live.vcd", as_dump([line.split() for line in program(RETRIES, "run", "--edges").splitlines()], inverted=True)))
+    try:
+        b.open(capture.address)
+        t.holds("a capture is read best", until(b, "hdminet.app.model.rounds.some(o => o.ending === 'complete')"))
+        t.same("its flags are fields", b.js("document.querySelector('#source .flags').hidden"), False)
+    finally:
+        capture.end()
+
+
+def live_server_is_careful(t, b):
+    """The server of tools/look --live answers its own page alone, takes 1 MB, and ends with all that it started."""
+    live = Live(written("careful.net", example("first-path.net")))
+    token = live.address.split("/")[3]
+    own = f"127.0.0.1:{live.port}"
+    body = example("first-path.net").encode()
+    for what, method, path, headers, wanted in [
+            ("its page", "GET", f"/{token}/", {}, 200), ("its text", "GET", f"/{token}/text", {}, 200),
+            ("no token", "GET", "/", {}, 403), ("another token", "GET", "/abc/text", {}, 403), ("a part of it", "GET", f"/{token[:-1]}/", {}, 403),
+            ("another host", "GET", f"/{token}/text", {"Host": "example.org"}, 403),
+            ("its name", "GET", f"/{token}/text", {"Host": f"localhost:{live.port}"}, 403),
+            ("another page", "POST", f"/{token}/run", {"Host": own, "Origin": "http://example.org"}, 403),
+            ("its own page", "POST", f"/{token}/run", {"Host": own, "Origin": f"http://{own}"}, 200),
+            ("a file", "GET", f"/{token}/../../etc/passwd", {}, 404), ("too long a text", "POST", f"/{token}/run", {"Content-Length": "1048577"}, 413),
+            ("no length", "POST", f"/{token}/run", {"Content-Length": "x"}, 411), ("nothing of it", "POST", f"/{token}/text", {}, 404)]:
+        status, _ = live.asked(method, path, body if method == "POST" and wanted == 200 else b"" if method == "POST" else None, **headers)
+        t.same(f"asked: {what}", status, wanted)
+    policy = re.search(r'Content-Security-Policy" content="([^"]*)"', live.asked("GET", f"/{token}/")[1].decode())[1]
+    t.holds("its policy", "default-src 'none'" in policy and policy.endswith("connect-src 'self'"), policy)
+    # It ends by a signal, and with who started it; nothing of its group is left.
+    live.end(signal.SIGHUP)
+    shell = subprocess.Popen(["bash", "-c", f"{os.path.join(TOP, 'tools/look')} --live {os.path.join(ROOM, 'careful.net')} & sleep 600"],
+                             stdout=subprocess.PIPE, text=True, env={**os.environ, "HDMINET_OPEN": "true"}, start_new_session=True)
+    port = int(re.search(r":(\d+)/", shell.stdout.readline())[1])
+    shell.kill()
+    ends, is_open = time.monotonic() + 30, True
+    while is_open and time.monotonic() < ends:
+        time.sleep(0.2)
+        with socket.socket() as probe:
+            is_open = probe.connect_ex(("127.0.0.1", port)) == 0
+    t.holds("it ends with who started it", not is_open)
+    os.killpg(shell.pid, signal.SIGKILL)  # the shell's sleep
+    shell.wait()
+    shell.stdout.close()
+    # A stream of objects is drawn as it comes
+    stream = Live("-", stdin=subprocess.PIPE)
+    try:
+        b.open(stream.address)
+        objects = program(example("first-path.net"), "run", "--json").splitlines(keepends=True)
+        for part, count in ((objects[:2], 2), (objects[2:4], 4)):
+            stream.process.stdin.write("".join(part))
+            stream.process.stdin.flush()
+            t.holds(f"a stream: {count} rows", until(b, f"hdminet.app.model.rounds.length === {count}"))
+        stream.process.stdin.close()
+    finally:
+        stream.end()
 
 
 def other_sizes_fit(t, b):
@@ -1210,8 +1409,10 @@ def sources_are_plain(t, _):
     folder = os.path.join(TOP, "view")
     for name in sorted(os.listdir(folder)):
         text = read(os.path.join(folder, name))
-        forbidden = (r"innerHTML|outerHTML|insertAdjacentHTML|document\.write|\beval\b|new Function|fetch\(|XMLHttpRequest"
+        forbidden = (r"innerHTML|outerHTML|insertAdjacentHTML|document\.write|\beval\b|new Function|XMLHttpRequest"
                      r"|https?://(?!www\.w3\.org/)")
+        if name != "live.js":  # which asks the server that gave it
+            forbidden += r"|fetch\(|EventSource"
         t.same(f"{name}: what makes markup or asks a network", re.findall(forbidden, text), [])
         t.same(f"{name}: lines that are too long", [line for line in text.splitlines() if len(line) > 130], [])
     texts = {name: read(os.path.join(folder, name)) for name in os.listdir(folder) if name.endswith(".js")}
@@ -1228,7 +1429,7 @@ def sources_are_plain(t, _):
 
 ALL = [sources_are_plain, verdicts_are_drawn, colours_differ, retries_are_folded, wave_is_drawn, other_lines_are_noticed,
        capture_is_drawn, advice_is_shown, attempts_are_the_audits, words_are_the_standards, reports_are_shown, values_of_an_evening,
-       values_of_retries, values_of_a_capture, failures_are_drawn, keys_reach_all, searches_find, other_sizes_fit, mouse_works, hostile_inputs_are_harmless,
+       values_of_retries, values_of_a_loose_device, values_of_a_capture, failures_are_drawn, keys_reach_all, searches_find, other_sizes_fit, live_page_runs, live_server_is_careful, mouse_works, hostile_inputs_are_harmless,
        inferences_are_the_programs, sentences_are_the_programs, dumps_are_read, files_may_be_dropped, pages_are_made,
        examples_have_pages,
        long_runs_are_fast]
@@ -1247,7 +1448,7 @@ def main():
             began = time.monotonic()
             try:
                 one(tests, browser)
-                if one is not hostile_inputs_are_harmless:
+                if one not in (hostile_inputs_are_harmless, live_page_runs, live_server_is_careful):
                     tests.same(f"{one.__name__}: faults of the page", browser.faults(), [])
             except Exception as fault:  # a test that breaks off has failed, and the next ones go on
                 tests.holds(one.__name__, False, f"{type(fault).__name__}: {fault}")

@@ -3,10 +3,10 @@
 
 import { whyStopped } from './chart.js';
 import { counted, duration, html, link, seconds, svg, table } from './elements.js';
-import { asciiOf, senderOf } from './model.js';
+import { senderOf } from './model.js';
+import { drawRoom, hasRoom } from './room.js';
 import { acknowledgersOf, blockOf, freeBefore, isWithin, lowWindow, partOf, slotsOf, WINDOWS } from './slots.js';
-import { asText } from './texts.js';
-import { addressInWords, CAUSES, meaningOf, partyName } from './words.js';
+import { addressInWords, CAUSES, meaningOf, partyName, stateWord } from './words.js';
 
 const MOST_LISTED = 500;
 const PAGE_OF_TABLE = 200;
@@ -17,6 +17,7 @@ export const PANELS = {
   look: { name: 'To look at', isThere: model => model.rows.length > 0, draw: drawToLookAt },
   report: { name: 'Report', isThere: model => model.tests.length > 0 || model.stretches.length > 0, draw: drawReport },
   table: { name: 'Table', isThere: model => model.rows.length > 0, draw: drawTable },
+  room: { name: 'Room', isThere: hasRoom, draw: drawRoom },
   devices: { name: 'At the end', isThere: model => model.states.length > 0, draw: drawDevices },
   talk: { name: 'Who sent what', isThere: model => model.rounds.length > 0, draw: drawTalk },
   edids: { name: 'EDIDs', isThere: model => model.ports.length > 0 || model.meanings.length > 0, draw: drawEdids },
@@ -336,27 +337,10 @@ function drawTable(app, model) {
   ];
 }
 
-const DECKS = {
-  __proto__: null, 11: 'play', 14: 'still', 17: 'fast forward', 18: 'fast reverse', 19: 'no medium', '1a': 'stop',
-  '1b': 'skip forward', '1c': 'skip reverse',
-};
 function drawDevices(app, model) {
-  const shown = (key, value) => {
-    if (value === null || value === undefined) return '–';
-    if (key === 'deck') return DECKS[value] || value;
-    if (key === 'menu_language' || key === 'osd_text') return asciiOf(value);
-    if (typeof value === 'boolean') return value ? 'on' : 'off';
-    if (Array.isArray(value)) return value.map(one => one ?? '–').join('+');
-    if (typeof value === 'object') {
-      const opcode = asText(value.opcode);
-      return `${model.names.get(opcode) || opcode} from ${asText(value.initiator)}`;
-    }
-    return value;
-  };
   const keys = Object.keys(model.states[0].fields).filter(key => !['line', 'type', 'device', 'kind'].includes(key));
-  const line = key => [
-    html('span', { class: 'dim' }, key.replace(/_/g, ' ')), ...model.states.map(state => asText(shown(key, state.fields[key]))),
-  ];
+  const words = key => model.states.map(state => stateWord(model, key, state.fields[key]));
+  const line = key => [html('span', { class: 'dim' }, key.replace(/_/g, ' ')), ...words(key)];
   return [
     dim('Each device\'s record at the end. – is none.'),
     html('div', { class: 'wide' }, table(['kind', ...keys].map(line), ['', ...model.states.map(state => state.device)])),

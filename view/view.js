@@ -41,6 +41,8 @@ class App {
   wave = null;
   quiet = 0;
   telling = 0;
+  /* What else is to be done where a row is selected. */
+  onSelect = () => {};
 
   constructor() {
     this.strip = new Strip(this, byId('strip'));
@@ -48,6 +50,11 @@ class App {
     this.wave = new Wave(this, byId('line'), byId('reading'));
   }
 
+  /* Shows the data of a page. */
+  async openData(data) {
+    this.data = data;
+    await this.openReading(data.first);
+  }
   /* Shows one of the readings that are in the page: of a capture there is one for each flag that the program advises. */
   async openReading(index) {
     const { texts, readings, title } = this.data;
@@ -248,7 +255,7 @@ class App {
       this.filter();
     }
     this.selected = row;
-    if (!keepsPanel && !(this.panel === 'report' && this.banded)) this.panel = 'selected';
+    if (!keepsPanel && !(this.panel === 'report' && this.banded) && this.panel !== 'room') this.panel = 'selected';
     this.chart.reveal(row);
     this.chart.draw();
     this.chart.mark(row);
@@ -259,7 +266,8 @@ class App {
     }
     this.wave.drawSoon();
     this.tellAddress();
-    if (!keepsPanel) this.drawPanel();
+    this.onSelect();
+    if (!keepsPanel || this.panel === 'room') this.drawPanel();
   }
   /* Unfolds or folds attempts, or shows the wave of a round. */
   toggle(row) {
@@ -576,8 +584,9 @@ function makeBar(bar, isVertical, size, resize) {
   });
 }
 
-/* The text of a part that tools/page put in: base64 of zlib. */
-async function inflated({ deflated }) {
+/* The text of a part that tools/page put in: base64 of zlib, or as it is. */
+async function inflated({ deflated, text }) {
+  if (text !== undefined) return text;
   const packed = atob(deflated);
   const bytes = new Uint8Array(packed.length);
   for (let i = 0; i < packed.length; i++) bytes[i] = packed.charCodeAt(i);
@@ -585,7 +594,7 @@ async function inflated({ deflated }) {
 }
 async function loadEmbedded(app) {
   app.data = JSON.parse(byId('data').textContent);
-  if (app.data) await app.openReading(app.data.first);
+  if (app.data) await app.openData(app.data);
   else await app.load([]);
   requestAnimationFrame(() => performance.mark('first picture'));
   performance.mark('loaded');
@@ -627,7 +636,7 @@ function listen(app) {
   });
 }
 
-const app = new App();
+export const app = new App();
 app.setTheme(matchMedia('(prefers-color-scheme: dark)').matches ? 'dark' : 'light');
 listen(app);
 loadEmbedded(app).catch(fault => {
