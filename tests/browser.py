@@ -125,7 +125,7 @@ class Browser:
     def open(self, path):
         """Opens a page of hdminet and waits until its data is there."""
         self.events.clear()
-        self.call("Page.navigate", url="file://" + os.path.abspath(path))
+        self.call("Page.navigate", url=path if path.startswith("http:") else "file://" + os.path.abspath(path))
         until = time.monotonic() + PATIENCE
         while not self.js("document.readyState === 'complete' && performance.getEntriesByName('loaded').length > 0"):
             if time.monotonic() > until:

@@ -1,14 +1,17 @@
 #!/usr/bin/env python3
 """page.py BROWSER ROOM: the tests of tests/page.sh. ROOM is a folder for what they make; HDMINET names the program."""
+import http.client
 import json
 import os
 import random
 import re
 import signal
+import socket
 import subprocess
 import sys
 import time
 
+import page_values
 from browser import Browser
 from page_inputs import hostile_inputs, long_room, MARKUP, random_room, RETRIES
 
@@ -30,9 +33,9 @@ window.testing = {
     const i = model.lanes.findIndex((_, lane) => Math.abs(chart.laneX(lane) - x) < 0.6);
     return i < 0 ? 'open' : model.lanes[i].name;
   },
-  drawn(text, nth = 0) {
+  drawn(text, nth = 0, found = null) {
     const { app } = this;
-    const row = this.rowOf(text, nth);
+    const row = found || this.rowOf(text, nth);
     if (!row) throw new Error(`no row ${text}`);
     if (row.into) app.toggle(row);
     app.chart.box.scrollTop = app.chart.tops[row.place];
@@ -79,6 +82,61 @@ window.testing = {
   },
   panel() {
     return document.getElementById('panel').textContent;
+  },
+  /* All that is shown of a row once it is selected: in the chart, in the heads, and in the side panel. */
+  shown(index) {
+    const { app } = this;
+    const row = app.model.rows[index];
+    app.banded = null;
+    app.openPanel('selected');
+    app.select(row);
+    app.chart.draw();
+    const group = document.getElementById(`row${row.index}`);
+    const texts = (root, selector) => [...root.querySelectorAll(selector)].map(one => one.textContent);
+    const cells = table => [...table.rows].map(tr => [...tr.cells].map(cell => cell.textContent));
+    const content = document.querySelector('#panel > div');
+    const parts = { tables: {}, lists: {}, texts: [] };
+    let above = '';
+    for (const one of content.children) {
+      if (/^H\d$/.test(one.tagName)) above = one.textContent;
+      else if (one.tagName === 'TABLE') parts.tables[above] = cells(one);
+      else if (one.tagName === 'DETAILS') parts.tables[one.firstChild.textContent] = cells(one.querySelector('table'));
+      else if (one.tagName === 'UL') parts.lists[above] = texts(one, 'li');
+      else parts.texts.push(one.textContent);
+    }
+    const claims = [...group.querySelectorAll('.claim')].map(box => {
+      const x = Number(box.getAttribute('x')) + Number(box.getAttribute('width')) + 7;
+      return `${this.laneAt(x)} ${box.nextElementSibling.textContent}`;
+    });
+    return {
+      type: row.type, at: row.at, time: texts(group, '.time').join(), label: texts(group, '.label').join(),
+      verdict: texts(group, '.verdict').join(), notes: texts(group, '.note'), warnings: texts(group, '.warn'),
+      titles: texts(group, '.lost title'), claims,
+      name: group.getAttribute('aria-label'), heads: [...document.querySelectorAll('#heads g')].map(head => texts(head, 'text')),
+      hints: texts(document, '#heads title'), title: texts(content, 'h2').join(), marks: this.drawn('', 0, row), ...parts,
+    };
+  },
+  /* Where the strip has a row: what a click at its middle selects. */
+  clicked(index) {
+    const { app } = this;
+    const row = app.model.rows[index];
+    const strip = document.getElementById('strip');
+    const box = strip.getBoundingClientRect();
+    const x = box.x + (row.at / app.model.end) * box.width;
+    strip.dispatchEvent(new MouseEvent('click', { clientX: x, clientY: box.y + 10, bubbles: true }));
+    return [app.selected.at, (2 * app.model.end) / box.width];
+  },
+  /* The texts that a canvas draws. */
+  written(draw) {
+    const plain = CanvasRenderingContext2D.prototype.fillText;
+    const found = [];
+    CanvasRenderingContext2D.prototype.fillText = function write(text, x, y) {
+      found.push([text, x, y]);
+      plain.call(this, text, x, y);
+    };
+    draw();
+    CanvasRenderingContext2D.prototype.fillText = plain;
+    return found;
   },
 };
 true
@@ -159,11 +217,11 @@ def verdicts_are_drawn(t, b):
            [[{"from": "tv", "to": "rec"}], ["amp"], ["p1", "sw"], ["tv", "rec"]])
     t.same("ok: what it says", [ok["cls"], ok["colour"], ok["verdict"]], ["ok", as_rgb["ok"], "ok"])
     refused = drawn(b, "0>f request-active-source refused")
-    t.same("refused", [refused["cls"], refused["colour"], refused["verdict"], refused["crosses"]],
-           ["refused", as_rgb["refused"], "refused", 1])
+    t.same("refused, which is remarked", [refused["cls"], refused["colour"], refused["verdict"], refused["crosses"]],
+           ["refused", as_rgb["refused"], "refused⚠ 1", 1])
     short = drawn(b, " short 0")
     t.same("short", [short["cls"], short["colour"], short["verdict"], short["label"], short["isDashed"], short["senders"]],
-           ["broken", as_rgb["broken"], "short", "short after 0", True, ["p1"]])
+           ["broken", as_rgb["broken"], "short⚠ 2", "short after 0", True, ["p1"]])
     free = drawn(b, "0>0 nack by tv")
     t.same("a poll that nobody took", [free["cls"], free["verdict"], free["claims"]], ["poll", "free", "0"])
     t.same("its loser in the arbitration", [free["losers"], free["outs"]], [["sw"], ["out @1"]])
@@ -176,7 +234,7 @@ def verdicts_are_drawn(t, b):
     t.same("nack: nobody holds the address", [nack["cls"], nack["colour"], nack["senders"], nack["crosses"], nack["circles"]],
            ["nack", as_rgb["nack"], ["tv"], 1, 1])
     bad = drawn(b, " bad-start ")
-    t.same("a bad start begins at the border", [bad["cls"], bad["verdict"], bad["senders"]], ["broken", "bad-start", ["open"]])
+    t.same("a bad start begins at the border", [bad["cls"], bad["verdict"], bad["senders"]], ["broken", "bad-start⚠ 1", ["open"]])
 
 
 def colours_differ(t, b):
@@ -193,10 +251,12 @@ def colours_differ(t, b):
         colours = b.js("hdminet.app.colours")
         verdicts = [colours[name] for name in ("ack", "ok", "nack", "refused", "broken", "poll", "event")]
         t.same(f"{theme}: colours of their own", len(set(verdicts)), len(verdicts))
-        for colour in [*verdicts, colours["ink"], colours["dim"]]:
-            dark, light = sorted([luminance(colour), luminance(colours["bg"])])
-            contrast = (light + 0.05) / (dark + 0.05)
-            t.holds(f"{theme}: {colour} on {colours['bg']}", contrast >= 4.5, f"{contrast:.2f}")
+        for below in ("bg", "panel", "select", "band"):
+            ground = b.js(f"getComputedStyle(document.documentElement).getPropertyValue('--{below}').trim()")
+            for colour in [*verdicts, colours["ink"], colours["dim"]]:
+                dark, light = sorted([luminance(colour), luminance(ground)])
+                contrast = (light + 0.05) / (dark + 0.05)
+                t.holds(f"{theme}: {colour} on {below}", contrast >= 4.5, f"{contrast:.2f}")
     b.js("hdminet.app.setTheme('light')")
 
 
@@ -295,9 +355,12 @@ def capture_is_drawn(t, b):
     t.same("open", [still["cls"], still["verdict"], still["senders"]], ["broken", "open", ["4"]])
     t.same("long", [long["cls"], long["verdict"]], ["broken", "long"])
     # What an audit notes is no remark
-    load(b, reading(10, "silent", "0000100001"), "10 9010 silent 0000100001\n  free 1 of 2\n  read 0>8\n  all readings\n")
-    noted = b.js("(row => [row.remarks, row.notes])(testing.app.model.rows.find(row => row.remarks && row.remarks.length > 0))")
-    t.same("a note of an audit is no remark", noted, [["free 1 of 2"], ["read 0>8"]])
+    remark = {"line": "  free 1 of 2", "type": "remark", "remark": "free", "section": "9.1", "width": 1, "due": 2}
+    note = {"line": "  read 0>8", "type": "note", "note": "read", "section": None, "initiator": "0"}
+    load(b, "\n".join([reading(10, "silent", "0000100001"), json.dumps(remark), json.dumps(note)]))
+    noted = b.js("(row => [row.remarks, row.notes].map(list => list.map(one => `${one.text} ${one.section}`)))"
+                 "(testing.app.model.rows.find(row => row.remarks && row.remarks.length > 0))")
+    t.same("a note of an audit is no remark", noted, [["free 1 of 2 9.1"], ["read 0>8 "]])
     # Chatter and slow bits: the run's line, each 40th rise late by 300, and spikes of 18 that --glitch leaves out
     edges = [line.split() for line in program(RETRIES, "run", "--edges").splitlines()]
     lines = ["$timescale 1 us $end", "$var wire 1 ! CEC $end", "$enddefinitions $end", "#0", "1!"]
@@ -313,10 +376,309 @@ def capture_is_drawn(t, b):
     t.holds("remarks of widths", b.js("testing.app.model.rows.filter(row => (row.remarks || []).length > 0).length") > 5)
     t.same("bits of all readings", b.js(
         "testing.app.model.rounds.filter(o => o.ending === 'complete' && !hdminet.slotsOf(testing.app.model, o)).length"), 0)
-    out = "testing.app.model.rounds.find(o => o.row.remarks.some(text => / low \\d+ not /.test(text)))"
+    out = "testing.app.model.rounds.find(o => o.row.remarks.some(one => / low \\d+ not /.test(one.text)))"
     b.js(f"testing.app.select({out}.row)")
     marked = b.js("[...document.querySelectorAll('#panel td .bad')].map(one => one.textContent)")
     t.holds("a width out of its window is marked", "out" in marked, marked)
+
+
+def values_of_room(t, b, name, room):
+    """Each value that the page shows of a room's run is the program's: chart, heads, side panel, wave, strip and tooltips."""
+    run = page_values.Run(program, room=room)
+    show(b, written(name, room))
+    rows_are_shown(t, b, name, run, page_values.Page)
+    hints = [f"{one}, {run.kinds[one]}: search for what it sends, and then for what it is sent" for one in run.devices]
+    t.same(f"{name}: hints", b.js("testing.shown(0).hints"), hints)
+    panels_are_shown(t, b, name, run)
+    wave_is_shown(t, b, name, run)
+    room_is_shown(t, b, name, run)
+    strip_is_shown(t, b, name, run)
+
+
+def values_of_an_evening(t, b):
+    """An amplifier, a switch, a recorder and players, half a minute of them."""
+    values_of_room(t, b, "evening.net", example("living-room-evening.net"))
+
+
+def values_of_retries(t, b):
+    """Attempts, a lost arbitration, refusals, pulses, and devices that lose their place."""
+    values_of_room(t, b, "retries.net", RETRIES)
+
+
+# A device that hangs nowhere, and a deck that plays.
+LOOSE = """device tv tv 4
+device p1 player 0
+device p2 player 0
+plug p1 tv 1
+script
+at 2000000 press p1 play
+at 2500000 plug p2 tv 2
+at 3500000 unplug p1
+end 4000000
+"""
+
+
+def values_of_a_loose_device(t, b):
+    """Who hangs nowhere hears nothing; a deck that plays."""
+    values_of_room(t, b, "loose.net", LOOSE)
+    t.same("the boxes of the room at the end", b.js(
+        "testing.app.openPanel('room'), testing.app.goTo(testing.app.chart.shown.length - 1),"
+        " [...document.querySelectorAll('.map g[data-device]')].map(box => [...box.querySelectorAll('text')].map(one => one.textContent))"),
+           [["tv", "0 0.0.0.0", "tv on"], ["p1", "not joined", "player on"], ["p2", "8 2.0.0.0", "player on"]])
+    b.js("testing.app.select(testing.rowOf('active-source 1.0.0.0'))")
+    t.same("the active source and its way", b.js("['.active text', '.way + text', '.sending text'].map(selector =>"
+                                                " document.querySelector(`.map ${selector}`).textContent)"),
+           ["▶ p1 ●", "port 1", "▶ p1 ●"])
+    changed = b.js("[...document.querySelectorAll('#panel .changed')].map(cell => [cell.parentNode.cells[0].textContent,"
+                   " cell.textContent, cell.title])")
+    t.holds("what the row changed", ["active source", "1.0.0.0", "was –"] in changed, changed)
+
+
+def room_is_shown(t, b, name, run):
+    """Each device's state after each row, in the panel of the room, is what the program's session says."""
+    got = b.js("(testing.app.openPanel('room'), testing.app.model.rows.map(row => { testing.app.select(row); return " + TABLE + "[0]; }))")
+    for number, (row, cells) in enumerate(zip(run.rows, got)):
+        if row["type"] in ("round", "event"):
+            after = run.states[number][1]
+            keys = [key for key in after[run.devices[0]] if key not in ("line", "type", "device", "kind")]
+            t.same(f"{name}: the room after {row['line']}", cells[1:], [
+                [key.replace("_", " "), *(page_values.state_cell(key, after[device][key], run.opcodes) for device in run.devices)]
+                for key in keys])
+
+
+def values_of_a_capture(t, b):
+    """A capture: each fortieth rise comes late by 300, and each sixtieth by as much too early."""
+    rows = [(int(at), level) for at, level in (line.split() for line in program(RETRIES, "run", "--edges").splitlines())]
+    rows = [(at + 300 * (level == "1") * ((i % 40 == 21) - (i % 60 == 31)), level) for i, (at, level) in enumerate(rows)]
+    text = "".join(f"{at} {level}\n" for at, level in rows)
+    wide = ["--margin", "200"]
+    run = page_values.Run(program, capture=text, flags=wide, changes=[at for at, level in rows if level != "end"])
+    show(b, written("faulty.edges", text), *wide)
+    rows_are_shown(t, b, "faulty.edges", run, page_values.PageOfCapture)
+    hints = [f"{digit}, {page_values.ADDRESSES[int(digit, 16)]}: search for what it sends, and then for what it is sent" for digit in run.lanes()]
+    t.same("faulty.edges: hints", b.js("testing.shown(0).hints"), hints)
+
+
+def rows_are_shown(t, b, name, run, kind):
+    unfold = ("testing.app.model.rows.forEach(row => { if (row.first) testing.app.unfolded.add(row.first); });"
+              " testing.app.filter(), testing.app.model.rows.map((_, index) => testing.shown(index))")
+    kinds = {"reading": "round", "port": "ports"}
+    all_got = b.js(unfold)
+    t.same(f"{name}: the rows", [[got["type"], got["at"]] for got in all_got],
+           [[kinds.get(row["type"], row["type"]), row.get("begin", row.get("at"))] for row in run.rows])
+    for number, (row, got) in enumerate(zip(run.rows, all_got)):
+        what = f"{name}: {row.get('line', row)}"
+        page = kind(run, number) if row["type"] in ("round", "reading", "event") else None
+        if page:
+            t.same(f"{what}: heads", got["heads"], page.heads())
+            t.same(f"{what}: claims", sorted(got["claims"]), sorted(page.claims()))
+            t.same(f"{what}: time", got["time"], page_values.seconds(row.get("begin", row.get("at"))))
+            t.same(f"{what}: its name", got["name"], row["line"])
+        if row["type"] in ("round", "reading"):
+            round_is_shown(t, what, got, page)
+        elif row["type"] == "event":
+            event_is_shown(t, what, got, row)
+        elif row["type"] == "gap":
+            idle = page_values.duration(row["until"] - row["at"])
+            t.same(what, [got["notes"], got["texts"]],
+                   [[f"idle {idle}"], [f"Nothing for {idle}, from {row['at']} to {row['until']} µs."]])
+        elif row["type"] == "end":
+            t.same(what, [got["notes"], got["texts"]], [["end"], [f"The run ends at {row['at']} µs."]])
+
+
+TABLE = ("[...document.querySelectorAll('#panel table')].map(table => [...table.rows].map(tr => [...tr.cells]"
+         ".map(cell => cell.textContent)))")
+
+
+def panels_are_shown(t, b, name, run):
+    """The tables of a run: each row, each device at the end, who sent what; and the counts above."""
+    pages = [page_values.Page(run, number) for number, row in enumerate(run.rows) if row["type"] == "round"]
+    b.js("testing.app.openPanel('table'), testing.app.openTable(0)")
+    rows = [row for row in b.js(TABLE)[0][1:] if row[1] or row[2] or row[4] in ("free", "taken", "bad-start", "short", "silent")]
+    t.same(f"{name}: the table of rows", rows, [page_values.grid_row(page) for page in pages])
+    b.js("testing.app.openPanel('devices')")
+    t.same(f"{name}: at the end", b.js(TABLE)[0], page_values.states_table(run))
+    b.js("testing.app.openPanel('talk')")
+    who, found = "", {}
+    for row in b.js(TABLE)[0][1:]:
+        who = row[0] or who
+        found[who, row[1]] = tuple(map(int, row[2:]))
+    t.same(f"{name}: who sent what", found, page_values.talk_table(run, pages))
+    classes = [page_values.class_of(row) for row in run.rows if row["type"] in ("round", "event")]
+    t.same(f"{name}: the chips", b.js("[...document.querySelectorAll('.chip')].map(chip => chip.textContent)"),
+           [f"{one} {classes.count(one)}" for one in page_values.CLASSES if one in classes])
+    t.same(f"{name}: the counts", b.js("document.getElementById('counts').textContent"), f"{len(run.rounds)} rounds")
+
+
+# What is to look at in the run of RETRIES, by hand from its trace: losses, refusals, what broke, and the audit's remarks.
+TO_LOOK_AT = [
+    ["0.397523", "address 4 is taken: not for p2", "×2"],
+    ["2.000000", "tv to 3: not acknowledged, 6 attempts", ""],
+    ["3.000000", "p2 lost the arbitration at bit 1 of the initiator's address", ""],
+    ["4.000000", "amp loses the address 5: unplug amp", ""],
+    ["4.000000", "p1 loses the address 4: unplug amp", ""],
+    ["4.000000", "p2 loses the address 8: unplug amp", ""],
+    ["6.811600", "4>0 feature-abort 09 unrecognized", ""],
+    ["7.000000", "short after 0 of p1", ""],
+    ["7.000000", "slot 1 block 1 bit 1 total 2000 not 2050..2750 and 1 more", ""],
+    ["7.500000", "press p1 volume-up: refused not-for-kind", ""],
+    ["8.000000", "bad-start", ""],
+    ["8.000000", "start low 700 not 3500..3900", ""],
+]
+
+
+def reports_are_shown(t, b):
+    """What is to look at, and a report with its window, by hand; a sweep's stretches."""
+    show(b, written("retries.net", RETRIES))
+    t.same("what is to look at", b.js(TABLE)[0], TO_LOOK_AT)
+    show(b, os.path.join(EXAMPLES, "wrong-film.test"))
+    t.same("a report", b.js("[...document.querySelector('#panel > div').children].map(one => one.textContent)"), [
+        "2 of 3 tests failed.", "✗ 2  expect none within 200000 of film 4>f active-source", "1 seen from 1000000 to 1200000 µs.",
+        "1.068400  4>f active-source 1.0.0.0 ok", "✗ 3  line 4 was refused: not-for-kind",
+        "✓ 1  label on expect within 60000 of film 4>0 image-view-on ack"])
+    show(b, os.path.join(EXAMPLES, "race.sweep"))
+    # examples/race.stretches, in words
+    stretches = [line.split(" ") for line in example("race.stretches").splitlines()]
+    words = {"ok": "✓ holds", "not-ok": "✗ fails"}
+    t.same("a sweep in words", b.js(TABLE)[0][1:], [
+        [span if span.split("..")[0] != span.split("..")[1] else span.split("..")[0], *(words[word] for word in tests)]
+        for span, *tests in stretches])
+    bars = "[...document.querySelectorAll('#space svg')].map(bar => [...bar.querySelectorAll('title')].map(one => one.textContent))"
+    t.same("a sweep's bars", b.js(bars), [[f"{'holds' if tests[i] == 'ok' else 'fails'} from {span.replace('..', ' to ')}"
+                                      for span, *tests in stretches] for i in range(2)])
+
+
+def wave_is_shown(t, b, name, run):
+    """What the wave says: each frame with its verdict, the bits of some, the ruler, and what is under the mouse."""
+    line = run.wires[0][1]
+    for one in run.rounds[::9]:
+        number = json.dumps(one["line"])
+        b.js(f"testing.app.wave.showRound(testing.rowOf({number}).o), testing.app.wave.cursors = [null, null]")
+        texts = b.js("testing.written(() => testing.app.wave.draw())")
+        words = [text for text, _, _ in texts]
+        label = f"{one['frame']} {one['verdict']}" if one["ending"] == "complete" else page_values.label(one)
+        is_there = label in words or any(label.startswith(word[:-1]) and word.endswith("…") for word in words)
+        t.holds(f"{name}: the frame {label}", is_there, words)
+        marks = [(text, x) for text, x, y in texts if re.match(r"\d+\.\d{6}$", text)]
+        places = b.js(f"{json.dumps([float(text) * 1e6 for text, _ in marks])}.map(at => testing.app.wave.x(at) + 3)")
+        t.holds(f"{name}: the ruler", marks and all(abs(x - place) < 0.01 for (_, x), place in zip(marks, places)), [marks, places])
+        if one["ending"] != "complete":
+            continue
+        for slot, (fall, low, total) in list(enumerate(line.slots(one["begin"], one["close"])))[:12]:
+            read = b.js(f"testing.app.wave.readingAt({fall + 1}, testing.app.model.wave.line)")
+            kind = "start low" if slot == 0 else "0 low" if low > page_values.SAMPLE else "1 low"
+            least, most = page_values.WINDOWS[kind]
+            parts = ["bit 1", "bit 2", "bit 3", "bit 4", "bit 5", "bit 6", "bit 7", "bit 8", "EOM", "ACK"]
+            place = f"block {(slot + 9) // 10} {parts[(slot - 1) % 10]}"
+            where = "start bit" if slot == 0 else f"slot {slot}: {place} = {int(kind == '1 low')}"
+            window = page_values.WINDOWS["start total" if slot == 0 else "bit total"]
+            is_last = slot + 1 == len(line.slots(one["begin"], one["close"]))
+            whole = "" if is_last else f", total {total} of {window[0]}..{window[1]}"
+            t.same(f"{name}: slot {slot} of {one['line']}", read[:3],
+                   [f"{fall + 1} µs", f"CEC low {low} µs, from {fall} to {fall + low}", f"{where}, low {low} of {least}..{most}{whole}"])
+
+
+def words_are_the_standards(t, b):
+    """Each word of the page's own tables: the names of addresses (CEC, table 5), the causes of refusals, the endings."""
+    b.open(BARE)
+    b.js(HELPERS)
+
+    def reading(at, **fields):
+        return json.dumps({"line": f"{at} reading", "type": "reading", "begin": at, "close": at + 9000, **fields})
+    sixteen = [reading(60000 * i, ending="complete", frame=f"{i:x}>f standby", initiator=f"{i:x}", destination="f",
+                       bytes=f"{i:x}f36", verdict="ok") for i in range(16)]
+    load(b, "\n".join(sixteen))
+    t.same("the names of addresses", b.js("testing.shown(0).hints"),
+           [f"{i:x}, {name}: search for what it sends, and then for what it is sent" for i, name in enumerate(page_values.ADDRESSES)])
+    t.same("in sentences", b.js("testing.app.model.rows.map((row, index) => testing.shown(index)).filter(got => got.type === 'round')"
+                                ".map(got => got.tables.Blocks[0][2])"), [f"{page_values.in_words(f'{i:x}')} to all" for i in range(16)])
+    endings = [ending for ending in page_values.ENDINGS]
+    load(b, "\n".join(reading(60000 * i, ending=ending, bits="01") for i, ending in enumerate(endings)))
+    t.same("the endings", b.js("testing.app.model.rounds.map(o => hdminet.meaningOf(o, testing.app.model))"),
+           [page_values.ENDINGS[ending] for ending in endings])
+    events = [json.dumps({"line": f"{i} event", "type": "event", "at": i, "script_line": i + 1, "verdict": "refused", "cause": cause,
+                          "text": "press p1 play"}) for i, cause in enumerate(page_values.CAUSES)]
+    load(b, "\n".join(events))
+    t.same("the causes", b.js("testing.app.model.rows.map((row, index) => testing.shown(index).texts[0])"),
+           [f"event was refused: {words} at {i} µs." for i, words in enumerate(page_values.CAUSES.values())])
+    b.js("testing.app.showHelp()")
+    marks = b.js("[...document.querySelectorAll('#dialog table')].map(table => [...table.rows].map(tr => tr.textContent))")
+    b.js("document.getElementById('dialog').close()")
+    # By hand: what each mark of the chart means
+    for mark, means in [("→", "acknowledged (green)"), ("↔", "to all that nobody refused (blue)"), ("× at an end", "nobody acknowledged"),
+                        ("○", "held by nobody"), ("loop", "free, nobody took it; or taken"), ("red × out @n", "up to 4 it lost the arbitration"),
+                        ("◆ ◇", "◇ was refused"), ("⚠ n", "remarks of the audit")]:
+        t.holds(f"the help has {mark}", any(line.startswith(mark) and means in line for line in marks[0]), marks[0])
+
+
+def round_is_shown(t, what, got, page):
+    run, one = page.run, page.row
+    remarks, attempt = page.run.remarks(one), page.run.attempt(one)
+    to, receivers = page.receivers()
+    label = page_values.label(one)
+    is_drawn = not page_values.is_poll(one) and (one["ending"] == "complete" or page_values.stopped(one))
+    is_open = bool(to) and to != "f" and not receivers and is_drawn
+    t.same(f"{what}: label", got["label"], f"{label} → {to}" if is_open else label)
+    verdict = page_values.verdict(one)
+    t.same(f"{what}: verdict", got["verdict"], verdict + (f"⚠ {len(remarks)}" if remarks else ""))
+    t.same(f"{what}: attempt", got["notes"], [f"attempt {attempt}"] if attempt and attempt > 1 else [])
+    t.same(f"{what}: out", [got["titles"], [text for text in got["warnings"] if "out" in text]],
+           [[page.why(out) for out in page.losers()], [f"out @{out['slot']}" for out in page.losers()]])
+    marks = got["marks"]
+    t.same(f"{what}: senders", marks["senders"], page.senders() or ["open"])
+    if to != "f":
+        t.same(f"{what}: where its arrow ends", marks["heads"] if receivers else [], receivers)
+    else:
+        t.same(f"{what}: who hears it", sorted([*marks["heads"], *marks["hearers"]]), sorted(receivers))
+    t.same(f"{what}: title", got["title"], one["frame"] if one["ending"] == "complete" else f"{one['ending']} {one['bits'] or ''}")
+    t.same(f"{what}: sentence", got["texts"][0], f"{verdict} {page.sentence()}")
+    t.same(f"{what}: parties and times", got["tables"][got["title"]], page.parties())
+    t.same(f"{what}: blocks", got["tables"].get("Blocks"), page.blocks())
+    widths = got["tables"].get("Widths, in µs")
+    t.same(f"{what}: widths", widths and widths[1:], page.widths())
+    t.same(f"{what}: free time", [text for text in got["texts"] if "was high for" in text], [page.free()] if page.free() else [])
+    slots = run.wires[0][1].slots(one["begin"], one["close"])
+    each = [[str(low), "" if i + 1 == len(slots) else str(total)] for i, (_, low, total) in enumerate(slots)]
+    shown = got["tables"].get("Each slot")
+    if one["ending"] == "complete":
+        t.same(f"{what}: each slot", [row[2:] for row in shown[1:]], each)
+        parts = ["bit 1", "bit 2", "bit 3", "bit 4", "bit 5", "bit 6", "bit 7", "bit 8", "EOM", "ACK"]
+        names = ["start", *(f"block {i // 10 + 1} {parts[i % 10]}" for i in range(len(slots) - 1))]
+        bits = ["", *("0" if low > page_values.SAMPLE else "1" for _, low, _ in slots[1:])]
+        t.same(f"{what}: bits", [row[:2] for row in shown[1:]], [list(pair) for pair in zip(names, bits)])
+
+    def said(below):
+        return [one["line"].strip() + (f" (CEC {one['section']})" if one["section"] else "") for one in below]
+    t.same(f"{what}: remarks and notes", [got["lists"].get("Remarks of the audit", []), got["lists"].get("Notes of the audit", [])],
+           [said(remarks), said(run.notes(one))])
+    t.same(f"{what}: line", got["texts"][-2], one["line"])
+
+
+def event_is_shown(t, what, got, row):
+    is_refused = row["verdict"] != "ok"
+    t.same(f"{what}: the event", [got["label"], got["title"]], [row["text"], row["text"]])
+    if is_refused:
+        t.same(f"{what}: its refusal", [got["warnings"], got["texts"][0]],
+               [[f"refused {row['cause']}"], f"event was refused: {page_values.CAUSES[row['cause']]} at {row['at']} µs."])
+    else:
+        t.same(f"{what}: applied", [got["notes"], got["texts"][0]],
+               [[f"line {row['script_line']}"], f"event was applied at {row['at']} µs."])
+    t.same(f"{what}: its line", got["texts"][1:3], [f"Line {row['script_line']} of the script.", row["line"]])
+
+
+def strip_is_shown(t, b, name, run):
+    """A click on the strip goes to the row that is there, and the row's colour is there."""
+    for number, row in enumerate(run.rows):
+        if row["type"] != "round" or number % 5:
+            continue
+        at, pixel = b.js(f"testing.clicked({number})")
+        t.holds(f"{name}: a click on the strip", abs(at - row["begin"]) <= pixel, [at, row])
+    ink = b.js("""(() => { const { app } = testing; const { model } = app; const strip = app.strip.picture;
+      const pen = strip.getContext('2d');
+      return model.rows.filter(row => row.type === 'round' && row.until - row.at > model.end / 200).map(row => {
+        const x = Math.round(((row.at + row.until) / 2 / model.end) * strip.width);
+        return pen.getImageData(x, Math.round(18 * devicePixelRatio), 1, 1).data[3] > 0; }); })()""")
+    t.holds(f"{name}: rounds are on the strip", all(ink), ink)
 
 
 def failures_are_drawn(t, b):
@@ -393,8 +755,13 @@ def keys_reach_all(t, b):
     for _ in range(40):
         b.key("Tab")
         reached.add(b.js("document.activeElement.id"))
-    t.holds("Tab reaches all", {"search", "open", "export", "theme", "help", "chart", "panel", "line", "tab-table"} <= reached,
+    t.holds("Tab reaches all", {"search", "open", "export", "theme", "help", "chart", "panel", "line", "tab-selected"} <= reached,
             sorted(reached))
+    b.js("testing.app.openPanel('selected'), document.getElementById('tab-selected').focus()")
+    for key, wanted in [("ArrowRight", "tab-look"), ("ArrowRight", "tab-table"), ("ArrowLeft", "tab-look"), ("End", "tab-notes"),
+                        ("ArrowRight", "tab-selected")]:
+        b.key(key)
+        t.same(f"tabs by {key}", b.js("[document.activeElement.id, document.querySelector('#tabs [aria-selected=true]').id]"), [wanted] * 2)
     b.js("testing.app.openPanel('table')")
     rows = b.js("[...document.querySelectorAll('#panel tr')].slice(1).map(tr => [...tr.cells].map(cell => cell.textContent))")
     t.same("the table has each row", len(rows), b.js("testing.app.chart.shown.length"))
@@ -408,6 +775,251 @@ def keys_reach_all(t, b):
     b.js("testing.app.copyMermaid()")
     t.holds("Mermaid", "L0->>L4: give-osd-name ack" in b.js("testing.app.exportedText"),
             b.js("testing.app.exportedText.slice(0, 600)"))
+
+
+def searches_find(t, b):
+    """What a search finds of an evening, against the program's objects."""
+    show(b, os.path.join(EXAMPLES, "living-room-evening.net"))
+    rounds = [json.loads(line) for line in program(example("living-room-evening.net"), "run", "--json").splitlines()]
+    rounds = [one for one in rounds if one["type"] == "round"]
+    texts = {"op:82": lambda one: one.get("bytes", "")[2:4] == "82",
+             "op:active-source": lambda one: one.get("bytes", "")[2:4] == "82",
+             "from:amp": lambda one: "amp" in one["by"],
+             "from:5": lambda one: one.get("initiator") == "5",
+             "to:0": lambda one: one.get("destination") == "0" and one.get("initiator") != "0",
+             "to:tv": lambda one: one.get("destination") == "0" and one.get("initiator") != "0",
+             "to:all": lambda one: one.get("destination") == "f",
+             "to:all not from:amp": lambda one: one.get("destination") == "f" and "amp" not in one["by"],
+             "t:3.1..3.2": lambda one: one["close"] >= 3100000 and one["begin"] <= 3200000,
+             "t:..0.5": lambda one: one["begin"] <= 500000,
+             "t:0.05": lambda one: page_values.seconds(one["begin"]).startswith("0.05"),
+             "0.0507": lambda one: "0.0507" in page_values.seconds(one["begin"]),
+             "complete not standby": lambda one: one["ending"] == "complete" and "standby" not in one["line"]}
+    for text, holds in texts.items():
+        b.js(f"testing.app.searchFor({json.dumps(text)})")
+        found = b.js("testing.app.chart.shown.filter(row => row.type === 'round').map(row => row.o.line)")
+        wanted = [one["line"] for one in rounds if holds(one)]
+        t.same(f"search {text}", found, wanted)
+        t.holds(f"there is something for {text}", wanted)
+    click = "document.querySelectorAll('#heads .row')[1].dispatchEvent(new MouseEvent('click', { bubbles: true }))"
+    b.js("testing.app.searchFor('')")
+    amp = b.js("testing.app.model.lanes[1].name")
+    for wanted in (f"from:{amp}", f"to:{amp}", ""):
+        b.js(click)
+        t.same("a click on a head", b.js("document.getElementById('search').value"), wanted)
+    b.js("document.getElementById('chart').focus()")
+    b.key("g")
+    for key in "3.127":
+        b.key(key)
+    b.key("Enter")
+    begins = [one["begin"] for one in rounds]
+    t.holds("g goes to a time", abs(b.js("testing.app.selected.at") - 3127000) <= min(abs(at - 3127000) for at in begins), begins)
+    time.sleep(0.5)
+    moment = b.js("location.hash")
+    t.same("the moment is in the address", moment, b.js("`#t=${(testing.app.selected.at / 1e6).toFixed(6)}&sel=${testing.app.selected.index}`"))
+    page = os.path.join(ROOM, "living-room-evening.net.html")
+    b.call("Page.navigate", url=f"file://{BARE}")
+    b.open(f"{page}#t=0.050700&sel=1")
+    t.same("an address with a moment", b.js("hdminet.app.selected.at"), 50700)
+    b.js("location.hash = '#t=3.1'")
+    time.sleep(0.2)
+    t.holds("another moment", abs(b.js("hdminet.app.selected.at") - 3100000) < 200000, b.js("hdminet.app.selected.at"))
+    b.js(HELPERS)
+    b.js("testing.app.showWave()")
+    left, width = b.js("(box => [box.x, box.width])(document.getElementById('strip').getBoundingClientRect())")
+    top = b.js("document.getElementById('strip').getBoundingClientRect().y + 10")
+    at = b.js("testing.app.selected.at")
+    b.mouse("mousePressed", left + width * 0.1, top, button="left", clickCount=1)
+    for part in (0.3, 0.6, 0.8):
+        b.mouse("mouseMoved", left + width * part, top, button="left", buttons=1)
+    b.mouse("mouseReleased", left + width * 0.8, top, button="left", clickCount=1)
+    b.settle()
+    sight = b.js("testing.app.chart.sight().map(i => testing.app.chart.shown[i].at / testing.app.model.end)")
+    t.holds("the strip's window is dragged", sight[0] < 0.85 and sight[1] > 0.75, sight)
+    t.same("and selects nothing", b.js("testing.app.selected.at"), at)
+
+
+class Live:
+    """tools/look --live of a file, and its address."""
+
+    def __init__(self, *arguments, **how):
+        self.process = subprocess.Popen([os.path.join(TOP, "tools/look"), "--live", *arguments], stdout=subprocess.PIPE, text=True,
+                                        env={**os.environ, "HDMINET_OPEN": "true"}, start_new_session=True, **how)
+        self.address = self.process.stdout.readline().split(" ")[1].strip()
+        self.host, self.port = re.search(r"http://([\d.]+):(\d+)/", self.address).groups()
+
+    def asked(self, method, path, body=None, **headers):
+        """The status with which a request is answered, and what it gives."""
+        connection = http.client.HTTPConnection(self.host, int(self.port), timeout=60)
+        connection.putrequest(method, path, skip_host="Host" in headers)
+        for name, value in {"Content-Length": str(len(body or b"")), **headers}.items():
+            connection.putheader(name, value)
+        connection.endheaders(body)
+        try:
+            found = connection.getresponse()
+            return found.status, found.read()
+        finally:
+            connection.close()
+
+    def end(self, sent=signal.SIGTERM):
+        self.process.send_signal(sent)
+        self.process.wait(30)
+        self.process.stdout.close()
+
+
+def until(b, code, patience=60):
+    """Waits until something holds in the page."""
+    ends = time.monotonic() + patience
+    while not b.js(code):
+        if time.monotonic() > ends:
+            return False
+        time.sleep(0.05)
+    return True
+
+
+LIVE = """window.edit = text => {
+  const { area } = hdminet.live;
+  area.value = text;
+  area.dispatchEvent(new Event('input'));
+  return new Promise(done => {
+    const before = performance.getEntriesByName('shown').length;
+    const look = () => (performance.getEntriesByName('shown').length > before ? done(true) : setTimeout(look, 20));
+    look();
+  });
+}; true"""
+
+
+def live_page_runs(t, b):
+    """tools/look --live: the text is run as it is edited; what is selected stays; a fault has its line; the file's changes come."""
+    room = example("first-path.net")
+    path = written("live.net", room)
+    live = Live(path)
+    try:
+        b.open(live.address)
+        b.js(HELPERS)
+        until(b, "performance.getEntriesByName('shown').length > 0")
+        b.js(LIVE)
+        lines = "testing.app.model.rows.filter(row => row.o && row.type !== 'end').map(row => row.o.line)"
+        t.same("the text", b.js("hdminet.live.area.value"), room)
+
+        def told(text):
+            return [line for line in program(text, "run").splitlines() if not re.match(r"state |\d+ end", line)]
+        t.same("it is run", b.js(lines), told(room))
+        b.js("testing.app.select(testing.rowOf('active-source')), testing.app.openPanel('room')")
+        draw = random.Random("edits")
+        for number in range(12):
+            edited = room.replace("at 1000000 press p1 play", f"at {draw.randrange(1000000, 1300000)} press p1 play")
+            b.js(f"edit({json.dumps(edited)})")
+            t.same(f"edit {number}", b.js(lines), told(edited))
+        t.same("what is selected stays, and the panel", b.js("[testing.app.selected.o.frame, testing.app.panel]"),
+               ["4>f active-source 1.0.0.0", "room"])
+        b.js(f"edit({json.dumps(room.replace('press', 'pres'))})")
+        fault = b.js("[document.querySelector('#source .fault').textContent, document.querySelector('#source .gutter .at').textContent,"
+                     " testing.app.model.rounds.length > 0]")
+        number = room.split("\n").index("at 1000000 press p1 play") + 1
+        t.holds("a fault in the words of --explain", "did you mean `press`?" in fault[0], fault)
+        t.same("its line, and the last good run stays", fault[1:], [str(number), True])
+        b.js(f"edit({json.dumps(room)})")
+        written("live.net", room.replace("1000000 press", "1100000 press"))
+        t.holds("a change of the file comes by itself", until(b, "hdminet.live.area.value.includes('1100000 press')"
+                " && testing.app.model.rounds.some(o => o.begin === 1100000)"))
+        b.js("(area => { const at = area.value.indexOf('at 1100000'); area.setSelectionRange(at, at); area.click(); })(hdminet.live.area)")
+        t.same("a click on a line selects its row", b.js("testing.app.selected.text"), "press p1 play")
+        t.same("and marks it", b.js("document.querySelector('#source .gutter .is').textContent"), str(number))
+        # An answer that comes after a later one is not shown
+        b.js("""(() => { const plain = window.fetch; let first = true;
+          window.fetch = async (...all) => { const slow = first; first = false; const answer = await plain(...all);
+            if (slow) await new Promise(done => setTimeout(done, 600)); return answer; }; })()""")
+        late, later = (room.replace("1000000 press", f"{at} press") for at in (1200000, 1300000))
+        b.js(f"(async () => {{ const {{ live }} = hdminet; live.area.value = {json.dumps(late)}; const one = live.run(true);"
+             f" live.area.value = {json.dumps(later)}; await live.run(true); await one; }})()")
+        t.same("an answer that comes late is ignored", b.js("testing.app.model.rounds.filter(o => o.begin >= 1000000)[0].begin"), 1300000)
+        t.same("nothing else is asked", [fault for fault in b.faults() if not fault.startswith(f"network: {live.address}")], [])
+    finally:
+        live.end()
+    capture = Live(written("live.vcd", as_dump([line.split() for line in program(RETRIES, "run", "--edges").splitlines()], inverted=True)))
+    try:
+        b.open(capture.address)
+        t.holds("a capture is read best", until(b, "hdminet.app.model.rounds.some(o => o.ending === 'complete')"))
+        t.same("its flags are fields", b.js("document.querySelector('#source .flags').hidden"), False)
+    finally:
+        capture.end()
+
+
+def live_server_is_careful(t, b):
+    """The server of tools/look --live answers its own page alone, takes 1 MB, and ends with all that it started."""
+    live = Live(written("careful.net", example("first-path.net")))
+    token = live.address.split("/")[3]
+    own = f"127.0.0.1:{live.port}"
+    body = example("first-path.net").encode()
+    for what, method, path, headers, wanted in [
+            ("its page", "GET", f"/{token}/", {}, 200), ("its text", "GET", f"/{token}/text", {}, 200),
+            ("no token", "GET", "/", {}, 403), ("another token", "GET", "/abc/text", {}, 403), ("a part of it", "GET", f"/{token[:-1]}/", {}, 403),
+            ("another host", "GET", f"/{token}/text", {"Host": "example.org"}, 403),
+            ("its name", "GET", f"/{token}/text", {"Host": f"localhost:{live.port}"}, 403),
+            ("another page", "POST", f"/{token}/run", {"Host": own, "Origin": "http://example.org"}, 403),
+            ("its own page", "POST", f"/{token}/run", {"Host": own, "Origin": f"http://{own}"}, 200),
+            ("a file", "GET", f"/{token}/../../etc/passwd", {}, 404), ("too long a text", "POST", f"/{token}/run", {"Content-Length": "1048577"}, 413),
+            ("no length", "POST", f"/{token}/run", {"Content-Length": "x"}, 411), ("nothing of it", "POST", f"/{token}/text", {}, 404)]:
+        status, _ = live.asked(method, path, body if method == "POST" and wanted == 200 else b"" if method == "POST" else None, **headers)
+        t.same(f"asked: {what}", status, wanted)
+    policy = re.search(r'Content-Security-Policy" content="([^"]*)"', live.asked("GET", f"/{token}/")[1].decode())[1]
+    t.holds("its policy", "default-src 'none'" in policy and policy.endswith("connect-src 'self'"), policy)
+    # It ends by a signal, and with who started it; nothing of its group is left.
+    live.end(signal.SIGHUP)
+    shell = subprocess.Popen(["bash", "-c", f"{os.path.join(TOP, 'tools/look')} --live {os.path.join(ROOM, 'careful.net')} & sleep 600"],
+                             stdout=subprocess.PIPE, text=True, env={**os.environ, "HDMINET_OPEN": "true"}, start_new_session=True)
+    port = int(re.search(r":(\d+)/", shell.stdout.readline())[1])
+    shell.kill()
+    ends, is_open = time.monotonic() + 30, True
+    while is_open and time.monotonic() < ends:
+        time.sleep(0.2)
+        with socket.socket() as probe:
+            is_open = probe.connect_ex(("127.0.0.1", port)) == 0
+    t.holds("it ends with who started it", not is_open)
+    os.killpg(shell.pid, signal.SIGKILL)  # the shell's sleep
+    shell.wait()
+    shell.stdout.close()
+    # A stream of objects is drawn as it comes
+    stream = Live("-", stdin=subprocess.PIPE)
+    try:
+        b.open(stream.address)
+        objects = program(example("first-path.net"), "run", "--json").splitlines(keepends=True)
+        for part, count in ((objects[:2], 2), (objects[2:4], 4)):
+            stream.process.stdin.write("".join(part))
+            stream.process.stdin.flush()
+            t.holds(f"a stream: {count} rows", until(b, f"hdminet.app.model.rounds.length === {count}"))
+        stream.process.stdin.close()
+    finally:
+        stream.end()
+
+
+def other_sizes_fit(t, b):
+    """A telephone: the panel below the chart, nothing wider than the window, the help on the first screen; and all rows on paper."""
+    page = page_of(os.path.join(EXAMPLES, "living-room-evening.net"))
+    try:
+        b.resize(390, 800)
+        b.open(page)
+        b.js(HELPERS)
+        boxes = b.js("['chart', 'panel', 'wave'].map(id => (box => [box.x, box.y, box.width])"
+                     "(document.getElementById(id).getBoundingClientRect()))")
+        t.holds("the chart has the window's width", boxes[0][2] > 350, boxes)
+        t.holds("the panel stands below", boxes[1][1] > boxes[0][1] + 200 and boxes[1][2] > 350, boxes)
+        t.holds("nothing is wider", b.js("document.documentElement.scrollWidth") <= 390)
+        b.open(BARE)
+        help_at = b.js("document.querySelector('.empty h2').getBoundingClientRect().y")
+        t.holds("the help stands on the first screen", 0 < help_at < 500, help_at)
+    finally:
+        b.resize(1440, 900)
+    b.open(page)
+    rows = b.js("hdminet.app.model.rows.length")
+    drawn_rows = b.js("(() => { dispatchEvent(new Event('beforeprint'));"
+                      " const count = document.querySelectorAll('#space .row[data-row]').length;"
+                      " dispatchEvent(new Event('afterprint')); return count; })()")
+    t.same("all rows are printed", drawn_rows, b.js("hdminet.app.chart.shown.length"))
+    t.holds("there are many", rows > 40, rows)
+    b.call("Page.printToPDF", paperWidth=8.3, paperHeight=11.7)
+    t.holds("after that the chart is as before", b.js("document.querySelectorAll('#space .row[data-row]').length") <= rows)
 
 
 def mouse_works(t, b):
@@ -619,12 +1231,95 @@ def sentences_are_the_programs(t, b):
            [line.split(" ", 2)[2] for line in room.splitlines() if line.startswith("at ")])
 
 
+def slower(rows, percent):
+    """A capture that is so much slower, of lines of an edge file."""
+    return "".join(f"{int(at) * (100 + percent) // 100} {level}\n" for at, level in rows)
+
+
+def as_dump(rows, *, other=False, inverted=False, chatter=False):
+    """A Value Change Dump of the lines of an edge file, with another wire before it, upside down, or with spikes."""
+    names = ["$var wire 1 s SDA $end"] if other else []
+    lines = ["$timescale 1 us $end", *names, "$var wire 1 ! CEC $end", "$enddefinitions $end", "#0", "0!" if inverted else "1!"]
+    for number, (at, level) in enumerate(rows):
+        lines.append(f"#{at}")
+        if level == "end":
+            continue
+        lines.append(f"{1 - int(level) if inverted else level}!")
+        if chatter and level == "1" and number % 20 == 1:
+            lines += [f"#{int(at) + 12}", "0!", f"#{int(at) + 30}", "1!"]
+    return "\n".join(lines) + "\n"
+
+
+def advice_is_shown(t, b):
+    """What the program advises on standard error stands above the run, which opens as it is read best; a button reads it
+    otherwise. The readings are those of the program with these flags."""
+    rows = [line.split() for line in program(RETRIES, "run", "--edges").splitlines()]
+    frames = program("".join(f"{at} {level}\n" for at, level in rows), "mon").count(" complete ")
+    for name, text, flags, says in [
+            ("inverted.vcd", as_dump(rows, inverted=True), ["--invert"], "the line is low most of the time"),
+            ("chatter.vcd", as_dump(rows, chatter=True), ["--glitch", "100"], "pulses and gaps are shorter than 100 microseconds"),
+            ("other.vcd", as_dump(rows, other=True), ["--signal", "CEC"], "--signal takes one of SDA, CEC"),
+            ("slow.edges", slower(rows, 6), ["--margin", "200"], f"--margin 200 reads {frames} frames more")]:
+        show(b, written(name, text))
+        banner = b.js("document.getElementById('banner').textContent")
+        t.holds(f"{name}: the banner", banner.startswith(f"Read with {' '.join(flags)}. The program says: ") and says in banner, banner)
+        t.same(f"{name}: the way back", b.js("[...document.querySelectorAll('#banner button')].map(one => one.textContent)")[0],
+               f"Read as it is: {frames} frames fewer")
+        read = [line for line in program(text, "mon", "--audit", *flags).splitlines() if not line.startswith(" ")]
+        t.same(f"{name}: the readings", b.js("testing.app.model.rounds.map(o => o.line)"), read)
+        t.same(f"{name}: its wave is that line", b.js(
+            "testing.app.model.rounds.filter(o => o.ending === 'complete' && !hdminet.slotsOf(testing.app.model, o)).length"), 0)
+        b.js("document.querySelector('#banner button').click()")
+        for _ in range(100):
+            if b.js("testing.app.reading === 0 && testing.app.model.rounds.every(o => o.ending !== 'complete')"):
+                break
+            time.sleep(0.05)
+        b.settle()
+        offer = b.js("[...document.querySelectorAll('#banner button')].map(one => one.textContent)")
+        t.holds(f"{name}: the button", f"Read with {' '.join(flags)}: {frames} frames more" in offer, offer)
+    show(b, written("asked.edges", slower(rows, 6)), "--margin", "200")
+    t.same("as asked for, nothing is advised", b.js("document.getElementById('banner').hidden"), True)
+    lost = "# cec-ctl --store-pin\n0.000000000 1\n0.012000000 65536\n0.015700000 1\n0.100000000 1\n"
+    show(b, written("lost.pin", lost))
+    t.same("lost events", b.js("document.getElementById('banner').textContent"),
+           "The program says: events were lost before line 3. ")
+    for name in ("capture.csv", "capture.pin"):
+        show(b, os.path.join(EXAMPLES, name))
+        # examples/capture.edges is the same line
+        wanted = [int(line.split()[0]) for line in example("capture.edges").splitlines() if re.match(r"\d+ [01]$", line)]
+        t.same(f"{name} has a wave", b.js("testing.app.model.wave.line.changes"), wanted)
+
+
+def attempts_are_the_audits(t, b):
+    """Three tries of 0 to 8 and two of 0 to 4 are no five attempts, and eight tries are eight (CEC 7.1)."""
+    tries = {"three.net": ["8", "8", "8", "4", "4"], "eight.net": ["8"] * 8}
+    for name, wanted in [("three.net", [1, 2, 3, 1, 2]), ("eight.net", [1, 2, 3, 4, 5, 6, 7, 8])]:
+        # Each header is pulled from outside, three bit periods and more after the last bit of the one before (CEC 9.1).
+        laid = "".join(f"{4000000 + 33900 * number} last 10 0>{to} give-osd-name\n" for number, to in enumerate(tries[name]))
+        pulls = program(laid, "lay")
+        show(b, written(name, f"device tv tv 4\nscript\n{pulls}end 9000000\n"))
+        shown = b.js("testing.app.model.rows.filter(row => row.type === 'round' && row.at >= 4000000).map(row => row.attempt)")
+        t.same(name, shown, wanted)
+
+
 def pages_are_made(t, b):
     """tools/page and tools/look: no page where the file is refused, one that opens where it is not, and no network."""
     missing = os.path.join(ROOM, "missing.html")
-    refused = written("refused.net", "device tv tv 4\nscript\nat x press tv play\nend 10\n")
-    done = subprocess.run([os.path.join(TOP, "tools/page"), refused, "-o", missing], capture_output=True, check=False)
-    t.same("a refused room", [done.returncode, os.path.exists(missing), b"script line 1" in done.stderr], [1, False, True])
+    top = "# a room\ndevice tv tv 4\n"
+    for name, text, words in [
+            ("typo.net", f"{top}script\nat 5 pres tv play\nend 10\n", ["line 4 of the input: at 5 pres tv play", "did you mean `press`"]),
+            ("typo.test", f"{top}script\nat 5 press tv play\nexpect nothing\nend 10\n", ["line 5 of the input: expect nothing"]),
+            ("returns.net", f"{top}script\nend 10\n".replace("\n", "\r\n"), ["lines end with LF; this one has a CR before it"]),
+            ("capital.net", f"{top}Script\nend 10\n", ["line 3: Script", "the line `script` is missing"])]:
+        for tool in (["tools/page", written(name, text), "-o", missing], ["tools/look", written(name, text), "-o", missing]):
+            done = subprocess.run([os.path.join(TOP, tool[0]), *tool[1:]], capture_output=True, check=False)
+            said = done.stderr.decode()
+            t.holds(f"{tool[0]} refuses {name} in the words of --explain", done.returncode == 1 and not os.path.exists(missing)
+                    and all(word in said for word in words), said)
+    out = os.path.join(ROOM, "standard-input.html")
+    subprocess.run([os.path.join(TOP, "tools/page"), "-o", out], input=example("wrong-film.test").encode(), check=True)
+    b.open(out)
+    t.same("a test on standard input is run", b.js("[hdminet.app.model.rounds.length, hdminet.app.model.tests.length]"), [6, 3])
     done = subprocess.run([os.path.join(TOP, "tools/page"), os.path.join(EXAMPLES, "first-path.trace"), "-o", missing],
                           capture_output=True, check=False)
     t.same("a trace is nothing to look at", [done.returncode, os.path.exists(missing), b"is no room" in done.stderr],
@@ -639,6 +1334,13 @@ def pages_are_made(t, b):
         t.same(f"look opens {name}", read(opened), out)
         b.open(out)
         t.same(f"its rounds: {name}", [b.js("hdminet.app.model.rounds.length"), b.faults()], [count, []])
+    show(b, os.path.join(EXAMPLES, "denon-avr-x2300w.edid"))
+    found = b.js("[...document.querySelectorAll('#panel .finding')].map(one => [...one.children].map(part => part.textContent))")
+    t.same("the rules that an EDID breaks", found, [
+        ["fail srgb", "bit 2 of the features is set exactly where the chromaticities are those of sRGB (E-EDID A, 3.6.4)",
+         "here: features 0a"],
+        ["fail out-of-range", "video codes, established and standard timings are within the range limits (E-EDID A, 3.10.3.3)",
+         "here: video code 96"]])
     size = os.path.getsize(BARE)
     t.holds("the page without data is below 300 KB", size < 300000, size)
     capture = written("capture.test", example("capture.expect") + "capture\n" + example("capture.pin"))
@@ -707,8 +1409,10 @@ def sources_are_plain(t, _):
     folder = os.path.join(TOP, "view")
     for name in sorted(os.listdir(folder)):
         text = read(os.path.join(folder, name))
-        forbidden = (r"innerHTML|outerHTML|insertAdjacentHTML|document\.write|\beval\b|new Function|fetch\(|XMLHttpRequest"
+        forbidden = (r"innerHTML|outerHTML|insertAdjacentHTML|document\.write|\beval\b|new Function|XMLHttpRequest"
                      r"|https?://(?!www\.w3\.org/)")
+        if name != "live.js":  # which asks the server that gave it
+            forbidden += r"|fetch\(|EventSource"
         t.same(f"{name}: what makes markup or asks a network", re.findall(forbidden, text), [])
         t.same(f"{name}: lines that are too long", [line for line in text.splitlines() if len(line) > 130], [])
     texts = {name: read(os.path.join(folder, name)) for name in os.listdir(folder) if name.endswith(".js")}
@@ -724,7 +1428,8 @@ def sources_are_plain(t, _):
 
 
 ALL = [sources_are_plain, verdicts_are_drawn, colours_differ, retries_are_folded, wave_is_drawn, other_lines_are_noticed,
-       capture_is_drawn, failures_are_drawn, keys_reach_all, mouse_works, hostile_inputs_are_harmless,
+       capture_is_drawn, advice_is_shown, attempts_are_the_audits, words_are_the_standards, reports_are_shown, values_of_an_evening,
+       values_of_retries, values_of_a_loose_device, values_of_a_capture, failures_are_drawn, keys_reach_all, searches_find, other_sizes_fit, live_page_runs, live_server_is_careful, mouse_works, hostile_inputs_are_harmless,
        inferences_are_the_programs, sentences_are_the_programs, dumps_are_read, files_may_be_dropped, pages_are_made,
        examples_have_pages,
        long_runs_are_fast]
@@ -743,7 +1448,7 @@ def main():
             began = time.monotonic()
             try:
                 one(tests, browser)
-                if one is not hostile_inputs_are_harmless:
+                if one not in (hostile_inputs_are_harmless, live_page_runs, live_server_is_careful):
                     tests.same(f"{one.__name__}: faults of the page", browser.faults(), [])
             except Exception as fault:  # a test that breaks off has failed, and the next ones go on
                 tests.holds(one.__name__, False, f"{type(fault).__name__}: {fault}")

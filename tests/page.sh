@@ -29,6 +29,14 @@ if [ -z "$program" ]; then
 fi
 [ -x "$program" ] || leave_out "there is no program at $program"
 command -v python3 > /dev/null || leave_out "there is no python3"
+# The faults that tests/page-faults.py plants stand in view/.
+"$top/tests/page-faults.py" --apply || exit 1
+# Types: Debian's node-typescript, where it is installed.
+if command -v tsc > /dev/null; then
+  tsc -p "$top/tests/page.tsconfig.json" || { echo "page: the types of view/ are at fault" >&2; exit 1; }
+else
+  echo "page: types are not checked: there is no tsc (node-typescript)"
+fi
 browser=$(find_browser) || { install_browser && browser=$(find_browser); } ||
   leave_out "there is no chromium, and it can't be installed here"
 

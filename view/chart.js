@@ -1,6 +1,6 @@
 // The chart: time runs down, and a lifeline stands for each device. Only the rows in sight are in the document.
 
-import { duration, seconds, shortened, svg } from './elements.js';
+import { byId, duration, seconds, shortened, svg } from './elements.js';
 import { deviceAt } from './model.js';
 import { blockOf } from './slots.js';
 import { lowerBound } from './texts.js';
@@ -9,9 +9,12 @@ export const CHARACTER = 6.65; // width of a character of the chart's font, in p
 const HEIGHTS = { round: 32, event: 24, gap: 18, ports: 22, end: 22, test: 24 };
 const LEFT = 96; // the times
 const RIGHT = 150; // the verdicts
+const NARROW = 700; // below so many pixels a lane has less room
 const MARGIN = 10;
 const HEADS = 50;
 const BESIDE = 12; // rows that are drawn above and below those in sight
+const MOST_PRINTED = 5000; // rows
+const PRINTED = 8; // rows of one picture on paper
 const widthOf = text => text.length * CHARACTER;
 
 /* Why a device stopped: it sent a 1 and the line said 0. In the initiator's address that is an arbitration. */
@@ -22,8 +25,23 @@ export function whyStopped(model, { lane, slot }) {
 }
 
 export class Chart {
+  /* The rows shown, and the place of each from above. */
+  shown = [];
+  tops = new Float64Array(1);
+  /* The first and the last row in the document, for which instant the heads are, and what is measured. */
+  drawn = null;
+  headsAt = null;
+  due = 0;
+  seen = 0;
+  distance = 0;
+  scrolled = 0;
+  width = 0;
+
   constructor(app, box, heads, space) {
-    Object.assign(this, { app, box, heads, space, shown: [], tops: new Float64Array(1), drawn: null });
+    this.app = app;
+    this.box = box;
+    this.heads = heads;
+    this.space = space;
     box.addEventListener('scroll', () => this.drawSoon());
     new ResizeObserver(() => {
       this.drawn = null;
@@ -58,7 +76,7 @@ export class Chart {
   /* Places lanes: all in sight where they are few, else at their least distance. */
   measure() {
     const lanes = Math.max(this.app.model.lanes.length, 1);
-    const least = lanes > 8 ? 72 : 86;
+    const least = this.box.clientWidth < NARROW || lanes > 8 ? 72 : 86;
     this.seen = this.box.clientWidth;
     this.distance = Math.min(Math.max((this.seen - LEFT - RIGHT) / lanes, least), 320);
     this.scrolled = this.box.scrollLeft;
@@ -86,6 +104,33 @@ export class Chart {
     const isAbove = top < this.box.scrollTop;
     const isBelow = top + HEIGHTS[row.type] > this.box.scrollTop + this.sightHeight;
     if (isAbove || isBelow) this.box.scrollTop = top - this.sightHeight / 3;
+  }
+
+  /* Marks the row that is selected, where it is drawn. */
+  mark(row) {
+    for (const one of this.space.querySelectorAll('[aria-selected=true]')) one.setAttribute('aria-selected', 'false');
+    const group = byId(`row${row.index}`);
+    if (group) group.setAttribute('aria-selected', 'true');
+  }
+  /* Scrolls to the rows of an instant. */
+  showTime(instant) {
+    const place = lowerBound(this.shown, instant, row => row.at);
+    this.box.scrollTop = this.tops[Math.min(place, this.shown.length - 1)] - this.sightHeight / 2;
+  }
+  drawAnew() {
+    this.drawn = null;
+    this.draw();
+  }
+  /* All rows as pictures that no page of paper cuts. */
+  print() {
+    if (this.shown.length === 0 || this.shown.length > MOST_PRINTED) return;
+    this.measure();
+    [this.scrolled, this.seen] = [0, this.width];
+    const pictures = [];
+    for (let from = 0; from < this.shown.length; from += PRINTED) {
+      pictures.push(this.picture(from, Math.min(from + PRINTED, this.shown.length) - 1));
+    }
+    this.space.replaceChildren(...pictures);
   }
 
   draw() {
@@ -124,7 +169,8 @@ export class Chart {
   picture(from, to) {
     const top = this.tops[from];
     const height = Math.max(this.tops[to + 1] - top, 1);
-    const all = svg('svg', { class: 'chart', width: this.width, height, role: 'presentation' });
+    const size = { width: this.width, height, viewBox: `0 0 ${this.width} ${height}` };
+    const all = svg('svg', { class: 'chart', ...size, role: 'presentation' });
     for (let i = from; i <= to; i++) all.append(new RowPicture(this, this.shown[i], this.tops[i] - top).draw());
     return all;
   }
@@ -140,15 +186,16 @@ export class Chart {
       const line = (y, cls, text) => svg('text', { x, y, class: cls, 'text-anchor': 'middle' }, fitting(text));
       const addresses = then.isJoined === false ? 'not joined' : `${then.logical || '–'} ${then.physical || '–'}`;
       return svg(
-        'g', { class: 'row', click: () => this.app.searchFor(isCapture ? `${lane.name}>` : lane.name) },
-        svg('title', {}, `${lane.name}, ${lane.kind}: search for it`),
+        'g', { class: 'row', click: () => this.app.searchForLane(lane.name) },
+        svg('title', {}, `${lane.name}, ${lane.kind}: search for what it sends, and then for what it is sent`),
         line(15, 'head', isCapture ? lane.osdName || lane.kind : lane.name),
         line(29, 'sub', isCapture ? '' : lane.kind),
         line(43, 'sub', addresses),
       );
     });
     const unit = svg('text', { x: 8, y: 30, class: 'time' }, 'seconds');
-    return svg('svg', { class: 'chart', width: this.width, height: HEADS }, unit, heads);
+    const size = { width: this.width, height: HEADS, viewBox: `0 0 ${this.width} ${HEADS}` };
+    return svg('svg', { class: 'chart', ...size }, unit, heads);
   }
 
   /* The rows shown, as one SVG that stands by itself, with the rules of its style. */
@@ -171,10 +218,16 @@ export class Chart {
 
 /* One row of the chart. */
 class RowPicture {
+  /* What is drawn above all else. */
+  onTop = [];
+
   constructor(chart, row, top) {
-    const height = HEIGHTS[row.type];
-    const middle = row.type === 'round' ? top + 21 : top + height / 2;
-    Object.assign(this, { chart, row, top, height, y: middle, model: chart.app.model, onTop: [] });
+    this.chart = chart;
+    this.row = row;
+    this.top = top;
+    this.height = HEIGHTS[row.type];
+    this.y = row.type === 'round' ? top + 21 : top + this.height / 2;
+    this.model = chart.app.model;
     this.group = this.frame();
   }
   x(lane) {
@@ -389,7 +442,8 @@ class RowPicture {
     const { row, chart, y } = this;
     const above = row.place > 0 ? chart.shown[row.place - 1] : null;
     if (row.first !== row && above && above.first === row.first) this.path('again', `M${LEFT - 14} ${y - 26}v26h5`);
-    const folded = row.folded ? `▸ attempts 1–${row.folded.length}` : '';
+    const kind = row.o.ending === 'bad-start' ? `${row.o.ending}s` : 'attempts';
+    const folded = row.folded ? `▸ ${kind} 1–${row.folded.length}` : '';
     const which = folded || (row.attempt > 1 ? `attempt ${row.attempt}` : '');
     if (which) this.drawNote(which, 'note', -8);
   }

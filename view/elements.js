@@ -14,12 +14,13 @@ function filled(element, attributes, content) {
 }
 export const html = (tag, attributes, ...content) => filled(document.createElement(tag), attributes, content);
 export const svg = (tag, attributes, ...content) => filled(document.createElementNS(NS, tag), attributes, content);
+/** @type {(id: string) => any} */
 export const byId = id => document.getElementById(id);
 
 export const seconds = microseconds => (microseconds / 1e6).toFixed(6);
 export function duration(microseconds) {
-  if (microseconds >= 1e6) return `${Number((microseconds / 1e6).toFixed(3))} s`;
-  return microseconds >= 1e4 ? `${Number((microseconds / 1e3).toFixed(1))} ms` : `${microseconds} µs`;
+  if (microseconds >= 1e6) return `${Math.round(microseconds / 1e3) / 1e3} s`;
+  return microseconds >= 1e4 ? `${Math.round(microseconds / 100) / 10} ms` : `${microseconds} µs`;
 }
 export const counted = (count, what) => `${count} ${what}${count === 1 ? '' : 's'}`;
 export const shortened = (text, most) => (text.length > most ? `${text.slice(0, Math.max(most - 1, 0))}…` : text);

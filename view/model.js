@@ -1,8 +1,9 @@
 // One model of all texts: lanes, rows in order of time, rounds, tests, the wave. Nothing here draws.
-// What the program does not write is inferred here, and docs/picture.md lists it: addresses over time, who receives, attempts.
+// What the program does not write is inferred here, and docs/picture.md lists it: who receives, and addresses where no session of
+// `live` tells them.
 
-import { asList, asText, kindOf, lowerBound, readAudit, readDump, readEdges, readObjects } from './texts.js';
-import { readRoom, readSentences, smoothed } from './texts.js';
+import { asList, asText, kindOf, lowerBound, readDump, readEdges, readFindings, readObjects } from './texts.js';
+import { readRoom, readSentences, smoothed, turned } from './texts.js';
 import { addressName } from './words.js';
 
 /* The logical addresses that each kind polls, by unit (docs/behaviour.md). A combo has two units. */
@@ -10,21 +11,19 @@ const POLLS = { __proto__: null, tv: ['0e'], amp: ['5'], player: ['48b'], record
 /* Who is the root of the tree, and who polls no address. */
 const TELEVISIONS = ['tv', 'outside-tv'];
 const SILENT = ['outside', 'outside-tv', 'switch'];
-/* Idle time from which on it is folded, and an attempt is a new frame, in microseconds. */
+/* Idle time from which on it is folded, in microseconds. */
 const FOLDED_IDLE = 250000;
 const SHORTEST_FOLD = 50000;
-const ATTEMPT_WITHIN = 200000;
-const MOST_ATTEMPTS = 6;
 const VERDICTS = ['ack', 'ok', 'nack', 'refused'];
 
 export const isWave = text => ['dump', 'edges'].includes(kindOf(text));
 
-/* The model of some texts: each is { name, text }, and the first may say by which wire and glitch a capture was read. */
+/* The model of some texts: each is { name, text }, and that of a wave may say how it is read. */
 export function build(texts) {
   const model = {
     title: '', objects: [], tests: [], stretches: [], meanings: [], faults: [], lanes: [], rows: [], rounds: [], states: [],
-    ports: [], events: [], sentences: new Map(), names: new Map(), wave: null, room: null, audit: null, findings: [],
-    isCapture: false, end: 1,
+    ports: [], events: [], sentences: new Map(), names: new Map(), wave: null, room: null, findings: [],
+    changes: [], ofAll: [], hasAudit: false, isCapture: false, end: 1,
   };
   const waves = [];
   for (const one of texts) {
@@ -32,10 +31,9 @@ export function build(texts) {
     if (kind === 'objects') readObjects(one.text, model);
     else if (kind === 'dump' || kind === 'edges') waves.push(one);
     else if (kind === 'room') model.room = readRoom(one.text);
-    else if (kind === 'audit') model.audit = readAudit(one.text);
     else if (kind === 'meaning') model.meanings.push(one);
     else if (kind === 'sentences') readSentences(one.text, model.sentences);
-    else if (kind === 'findings') model.findings.push(...one.text.split('\n').filter(Boolean));
+    else if (kind === 'findings') model.findings.push(...readFindings(one.text));
     else if (kind === 'plain') model.faults.push(`${one.name}: a plain text of the program; give the flag --json`);
     else if (kind === 'empty') model.faults.push(`${one.name}: empty`);
     else model.faults.push(`${one.name}: neither objects of hdminet nor a dump, an edge file or a room`);
@@ -44,6 +42,7 @@ export function build(texts) {
   const ends = model.objects.filter(o => o.type === 'end').length;
   if (ends > 1) model.faults.push('several runs in one page: their rounds are mixed');
   model.isCapture = !model.objects.some(o => o.type === 'round') && model.objects.some(o => o.type === 'reading');
+  if (!model.isCapture) addAudit(model);
   addLanes(model);
   addRows(model);
   for (const { bytes, frame } of model.rounds) if (bytes.length > 2) model.names.set(bytes.slice(2, 4), frame.split(' ')[1]);
@@ -52,17 +51,31 @@ export function build(texts) {
   addTests(model);
   model.events = model.rows.filter(row => row.type === 'event');
   compareWithStates(model);
-  for (const one of waves) addWave(model, one, texts[0]);
+  for (const one of waves) addWave(model, one);
   return model;
 }
 
-/* Adds a wave, which is the longest of the texts to read. */
-export function addWave(model, { name, text }, { signal, glitch } = {}) {
+/* Takes what an audit says of the line of a run to its rounds, which are its readings. */
+function addAudit(model) {
+  const key = o => `${o.begin} ${o.close}`;
+  const readings = new Map(model.objects.filter(o => o.type === 'reading').map(o => [key(o), o]));
+  if (readings.size === 0) return;
+  model.objects = model.objects.filter(o => o.type !== 'reading');
+  for (const o of model.objects) {
+    const { remarks, notes } = (o.type === 'round' && readings.get(key(o))) || {};
+    if (remarks) [o.remarks, o.notes] = [remarks, notes];
+  }
+}
+
+/* Adds a wave, which is the longest of the texts to read; `how` says by which flags the capture was read. */
+export function addWave(model, { name, text, how }) {
+  const { signal, glitch, invert } = how || {};
   const wave = kindOf(text) === 'dump' ? readDump(text, signal) : readEdges(text);
   if (!wave) {
     model.faults.push(`${name}: a dump without a wire or a time scale`);
     return;
   }
+  if (invert) wave.line.changes = turned(wave.line.changes);
   if (Number(glitch) > 0) wave.line.changes = smoothed(wave.line.changes, Number(glitch));
   model.wave = wave;
   model.end = Math.max(model.end, wave.end);
@@ -220,12 +233,48 @@ class Holders {
   }
 }
 
+/* Writes down what the program says of each device over time: what it says before an instant is so since the last round or event
+   was over. */
+function addHistory(model) {
+  const ends = model.objects.filter(o => ['round', 'event'].includes(o.type)).map(o => o.close ?? o.at).sort((a, b) => a - b);
+  for (const { before, state } of model.changes) {
+    const lane = model.lanes[model.laneOf.get(state.device)];
+    if (!lane) continue;
+    const at = ends[lowerBound(ends, before) - 1] ?? -1;
+    const logical = state.logical.filter(Boolean).join('+');
+    const entry = { at, logical, isJoined: state.physical !== '', physical: state.physical, state };
+    if (lane.history.length > 0 && lane.history.at(-1).at === at) lane.history.pop();
+    lane.history.push(entry);
+  }
+}
+/* Which row has changed an address: the last one that was over then, but before all an event that plugs or holds. */
+function addAddresses(model) {
+  const ended = new Map();
+  for (const row of model.rows) {
+    const at = row.until ?? row.at;
+    const before = ended.get(at);
+    const isFirm = before && before.type === 'event' && PLUGS.test(before.text);
+    if (row.type === 'round' || (row.type === 'event' && !(isFirm && !PLUGS.test(row.text)))) ended.set(at, row);
+  }
+  model.lanes.forEach((lane, index) => {
+    for (const { at, logical, isJoined } of lane.history) {
+      const shown = isJoined ? logical : '';
+      const row = ended.get(at);
+      if (row && shown !== lane.shown) row.changes.push({ lane: index, text: shown || '–', was: lane.shown });
+      lane.shown = shown;
+    }
+  });
+}
+const PLUGS = /^(plug|unplug|hold) /;
+
 export const asciiOf = hex => (asText(hex).match(/../g) || []).map(byte => String.fromCharCode(parseInt(byte, 16))).join('');
 
 /* Rows of the chart: rounds, events, EDIDs, folded idle time. */
 function addRows(model) {
-  const holders = new Holders(model);
-  const lastOf = new Map(); // a sender's last round, for attempts
+  const isTold = model.changes.length > 0 && !model.isCapture;
+  const holders = isTold ? null : new Holders(model);
+  if (isTold) addHistory(model);
+  const lastOf = new Map(); // a sender's last attempt
   let close = 0;
   let ports = null;
   for (const o of model.objects) {
@@ -259,18 +308,10 @@ function addRows(model) {
       close = at;
     }
   }
+  if (isTold) addAddresses(model);
   model.rows.forEach((row, index) => {
     row.index = index;
   });
-}
-
-/* What a search looks at in a row. */
-export function findIn(row) {
-  if (row.find === undefined) {
-    const { line = '', bytes = '' } = row.o || {};
-    row.find = [line.slice(0, 300), row.text, row.cls, bytes].join(' ').toLowerCase();
-  }
-  return row.find;
 }
 
 /* A sender stops where a block was not taken: the round is then silent after whole blocks, and the last bit says so. */
@@ -299,12 +340,11 @@ function describeRound(model, row, holders, lastOf) {
   const ofVerdict = VERDICTS.includes(o.verdict) ? o.verdict : 'idle';
   row.cls = stopped || (o.ending !== 'complete' ? broken : isPoll ? 'poll' : ofVerdict);
   row.verdict = o.ending !== 'complete' ? o.ending : !isPoll ? o.verdict : o.verdict === 'nack' ? 'free' : 'taken';
-  const reading = model.isCapture ? o.line : o.line.replace(/ by .*/, '');
-  row.remarks = (model.audit && model.audit.remarks.get(reading)) || [];
-  row.notes = (model.audit && model.audit.notes.get(reading)) || [];
-  row.to = (o.ending === 'complete' || stopped) && !isPoll ? receiversOf(model, row, holders) : [];
-  countAttempt(row, lastOf);
-  for (const lane of row.from) holders.hear(row, lane);
+  row.remarks = o.remarks;
+  row.notes = o.notes;
+  row.to = (o.ending === 'complete' || stopped) && !isPoll ? receiversOf(model, row) : [];
+  tieAttempt(row, lastOf);
+  if (holders) for (const lane of row.from) holders.hear(row, lane);
 }
 
 function textOf(o, isPoll, stopped) {
@@ -315,24 +355,28 @@ function textOf(o, isPoll, stopped) {
 }
 
 /* Who receives: all others that are joined, or the holders of the address. */
-function receiversOf(model, row, holders) {
+function receiversOf(model, row) {
   const isReceiver = lane => {
-    if (row.destination === 'f') return model.isCapture || model.lanes[lane].history.at(-1).isJoined;
-    return model.isCapture ? model.lanes[lane].name === row.destination : holders.held[lane].includes(row.destination);
+    const { isJoined, logical } = deviceAt(model.lanes[lane], row.at) || {};
+    if (row.destination === 'f') return model.isCapture || isJoined;
+    return model.isCapture ? model.lanes[lane].name === row.destination : asText(logical).split('+').includes(row.destination);
   };
   return model.lanes.map((_, lane) => lane).filter(lane => !row.from.includes(lane) && isReceiver(lane));
 }
 
-/* An attempt is the same frame of the same sender, soon after one that failed. */
-function countAttempt(row, lastOf) {
-  const sender = String(row.from);
-  const last = sender && lastOf.get(sender);
-  const isAgain = last && row.at - last.until < ATTEMPT_WITHIN && last.attempt < MOST_ATTEMPTS &&
-    ['nack', 'refused', 'broken'].includes(last.cls) && (last.o.bytes === row.o.bytes || !last.o.bytes || !row.o.bytes);
-  lastOf.set(sender, row);
-  row.attempt = isAgain ? last.attempt + 1 : 1;
-  row.first = isAgain ? last.first : row;
+/* Which attempt this is says the audit. It is tied to the one before it; so are bad starts one after another. */
+function tieAttempt(row, lastOf) {
+  const sender = senderOf(row.o);
+  const said = [...row.notes, ...row.remarks].find(({ attempt }) => attempt !== null);
+  const last = lastOf.get(sender);
+  row.attempt = said ? said.attempt : null;
+  row.first = said && last && row.attempt === last.attempt + 1 ? last.first : row;
   row.first.attempts = row.attempt;
+  if (said) lastOf.set(sender, row);
+  else lastOf.delete(sender);
+  if (row.o.ending !== 'bad-start') lastOf.delete('bad-start');
+  else if (lastOf.has('bad-start')) row.first = lastOf.get('bad-start');
+  else lastOf.set('bad-start', row);
 }
 
 function describeEvent(model, row, holders) {
@@ -343,7 +387,7 @@ function describeEvent(model, row, holders) {
   row.verdict = o.verdict === 'ok' ? '' : `refused ${o.cause}`;
   const words = row.text.split(' ');
   row.lane = line ? model.laneOf.get(words[1]) : undefined;
-  if (line && o.verdict === 'ok') holders.apply(row, words);
+  if (holders && line && o.verdict === 'ok') holders.apply(row, words);
 }
 
 /* Which rows the tests speak of. A failure stands in the chart too, where its window ends. */

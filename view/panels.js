@@ -3,10 +3,10 @@
 
 import { whyStopped } from './chart.js';
 import { counted, duration, html, link, seconds, svg, table } from './elements.js';
-import { asciiOf, senderOf } from './model.js';
+import { senderOf } from './model.js';
+import { drawRoom, hasRoom } from './room.js';
 import { acknowledgersOf, blockOf, freeBefore, isWithin, lowWindow, partOf, slotsOf, WINDOWS } from './slots.js';
-import { asText } from './texts.js';
-import { addressInWords, CAUSES, meaningOf, partyName } from './words.js';
+import { addressInWords, CAUSES, meaningOf, partyName, stateWord } from './words.js';
 
 const MOST_LISTED = 500;
 const PAGE_OF_TABLE = 200;
@@ -17,12 +17,13 @@ export const PANELS = {
   look: { name: 'To look at', isThere: model => model.rows.length > 0, draw: drawToLookAt },
   report: { name: 'Report', isThere: model => model.tests.length > 0 || model.stretches.length > 0, draw: drawReport },
   table: { name: 'Table', isThere: model => model.rows.length > 0, draw: drawTable },
+  room: { name: 'Room', isThere: hasRoom, draw: drawRoom },
   devices: { name: 'At the end', isThere: model => model.states.length > 0, draw: drawDevices },
   talk: { name: 'Who sent what', isThere: model => model.rounds.length > 0, draw: drawTalk },
   edids: { name: 'EDIDs', isThere: model => model.ports.length > 0 || model.meanings.length > 0, draw: drawEdids },
   notes: { name: 'Notes', isThere: model => model.faults.length > 0 || hasAudit(model), draw: drawNotes },
 };
-const hasAudit = model => Boolean(model.audit && model.audit.ofAll.length > 0);
+const hasAudit = model => model.ofAll.length > 0;
 
 const dim = text => html('p', { class: 'dim' }, text);
 const bad = text => html('span', { class: 'bad' }, text);
@@ -58,12 +59,14 @@ function drawRound(app, model, row) {
     table(partiesAndTimes(model, row)),
     round.bytes && blocks(model, round),
     widths(model, round),
-    row.remarks.length > 0 && [html('h3', {}, 'Remarks of the audit'), list(row.remarks)],
-    row.notes.length > 0 && [html('h3', {}, 'Notes of the audit'), list(row.notes)],
+    row.remarks.length > 0 && [html('h3', {}, 'Remarks of the audit'), list(row.remarks.map(inWords))],
+    row.notes.length > 0 && [html('h3', {}, 'Notes of the audit'), list(row.notes.map(inWords))],
     row.tests.length > 0 && [html('h3', {}, 'Tests'), row.tests.map(test => testButton(app, test))],
     html('h3', {}, 'Line'), html('pre', {}, round.line), html('p', {}, links),
   ];
 }
+/* A remark or a note, with its section of HDMI 1.4 CEC. */
+const inWords = ({ text, section }) => (section ? `${text} (CEC ${section})` : text);
 const list = texts => html('ul', {}, texts.map(text => html('li', {}, text)));
 
 function partiesAndTimes(model, row) {
@@ -80,7 +83,7 @@ function partiesAndTimes(model, row) {
     ['From', sender],
     row.destination && ['To', row.destination === 'f' ? 'all' : row.to.length > 0 ? both(row.to) : nobody],
     row.losers.length > 0 && ['Out', row.losers.map(loser => whyStopped(model, loser)).join('; ')],
-    (row.attempt > 1 || row.folded) && ['Attempt', attempts],
+    (row.attempt !== null || row.folded) && ['Attempt', attempts],
     ['Begin', `${round.begin} µs`],
     ['Close', `${round.close} µs, ${round.close - round.begin} later`],
     before && ['Before', `${round.begin - before.close} µs since the close of the round above`],
@@ -112,6 +115,9 @@ function blocks(model, round) {
 
 const span = (least, most) => (least === most ? String(least) : `${least}..${most}`);
 
+/* Whether the fall after a slot came too early, and ended the round. */
+const isEnd = (round, slot) => round.ending === 'short' && slot.at + slot.total === round.close;
+
 /* Which widths of a round are in the windows of CEC 5.2, and each slot as a table. */
 function widths(model, round) {
   const slots = slotsOf(model, round);
@@ -119,10 +125,12 @@ function widths(model, round) {
     if (!model.wave || round.ending === 'joined') return null;
     return dim('The wave is not the line that this was read of: another run, or pulses that --glitch left out.');
   }
-  const kinds = [
+  /** @type {[string, number[]][]} */
+  const windows = [
     ['start low', WINDOWS.startLow], ['start total', WINDOWS.startTotal], ['0 low', WINDOWS.zero],
     ['1 low', WINDOWS.one], ['bit total', WINDOWS.total],
-  ].map(([name, window]) => ({ name, window, seen: [] }));
+  ];
+  const kinds = windows.map(([name, window]) => ({ name, window, seen: [] }));
   const faults = [];
   slots.forEach((slot, i) => {
     const put = ({ name, window, seen }, width) => {
@@ -131,7 +139,7 @@ function widths(model, round) {
       if (!isWithin(width, window)) faults.push(`${where}: ${name} ${width}`);
     };
     put(kinds[i === 0 ? 0 : slot.bit ? 3 : 2], slot.low);
-    if (slots[i + 1]) put(kinds[i === 0 ? 1 : 4], slot.total);
+    if (slots[i + 1] || isEnd(round, slot)) put(kinds[i === 0 ? 1 : 4], slot.total);
   });
   const rows = kinds.filter(kind => kind.seen.length > 0).map(({ name, window, seen }) => {
     const isIn = seen.every(width => isWithin(width, window));
@@ -144,13 +152,13 @@ function widths(model, round) {
     table(rows, ['', 'seen', 'allowed', '']),
     free !== null && html('p', {}, `The line was high for ${free} µs before${asked}.`),
     faults.length > 0 && html('ul', { class: 'bad' }, faults.slice(0, 12).map(fault => html('li', {}, fault))),
-    html('details', {}, html('summary', {}, 'Each slot'), slotTable(slots)),
+    html('details', {}, html('summary', {}, 'Each slot'), slotTable(round, slots)),
   ];
 }
-function slotTable(slots) {
+function slotTable(round, slots) {
   const rows = slots.map(({ bit, low, total }, i) => [
     i === 0 ? 'start' : `block ${blockOf(i)} ${partOf(i)}`, i === 0 ? '' : bit,
-    isWithin(low, lowWindow(i, bit)) ? low : bad(String(low)), slots[i + 1] ? total : '',
+    isWithin(low, lowWindow(i, bit)) ? low : bad(String(low)), slots[i + 1] || isEnd(round, slots[i]) ? total : '',
   ]);
   return table(rows, ['slot', 'bit', 'low', 'total']);
 }
@@ -227,7 +235,7 @@ function oddities(model, row) {
   }
   if (row.remarks.length > 0) {
     const others = row.remarks.length > 1 ? ` and ${row.remarks.length - 1} more` : '';
-    odd.push([row.remarks[0] + others, 'broken']);
+    odd.push([row.remarks[0].text + others, 'broken']);
   }
   return odd;
 }
@@ -264,22 +272,24 @@ function drawReport(app, model) {
     tests.length > 0 && html('p', {}, count),
     ordered.map(test => [testButton(app, test), app.banded === test && testDetails(app, test)]),
     tests.length > 0 && model.rounds.length === 0 && dim(alone),
-    stretches.length > 0 && stretchTable(model),
+    stretches.length > 0 && stretchTable(app, model),
   ];
 }
 
 /* A sweep: a bar for each test over the range of instants. */
 const BAR_WIDTH = 1000;
-export function drawSweep({ stretches, room }) {
+export function drawSweep(app, { stretches, room }) {
   const { from } = stretches[0];
   const { to } = stretches[stretches.length - 1];
   const x = instant => ((instant - from) / (to - from || 1)) * (BAR_WIDTH - 5);
   const shape = { class: 'sweep', viewBox: `0 0 ${BAR_WIDTH} 20`, preserveAspectRatio: 'none', role: 'img' };
   const bar = test => svg('svg', { ...shape, 'aria-label': `test ${test + 1}` }, stretches.map(stretch => {
     const holds = stretch.holds[test];
-    const place = { x: x(stretch.from), y: 0, width: Math.max(x(stretch.to) - x(stretch.from), 5), height: 20 };
+    const [y, height] = holds ? [0, 20] : [8, 12]; // what fails is lower
+    const place = { x: x(stretch.from), y, width: Math.max(x(stretch.to) - x(stretch.from), 5), height };
     const title = svg('title', {}, `${holds ? 'holds' : 'fails'} from ${stretch.from} to ${stretch.to}`);
-    return svg('rect', { ...place, style: `fill:var(--${holds ? 'ack' : 'broken'})` }, title);
+    const colour = `fill:var(--${holds ? 'ack' : 'broken'})`;
+    return svg('rect', { ...place, style: colour, click: () => app.openInstant(stretch.from) }, title);
   }));
   const expectation = test => (room && room.expectations[test] ? `  ${room.expectations[test]}` : '');
   return [
@@ -289,9 +299,10 @@ export function drawSweep({ stretches, room }) {
   ];
 }
 /* The same in words. */
-function stretchTable({ stretches }) {
+function stretchTable(app, { stretches }) {
   const mark = holds => (holds ? '✓ holds' : bad('✗ fails'));
-  const rows = stretches.map(({ from, to, holds }) => [span(from, to), ...holds.map(mark)]);
+  const at = ({ from, to }) => (app.hasInstant(from) ? link(span(from, to), () => app.openInstant(from)) : span(from, to));
+  const rows = stretches.map(stretch => [at(stretch), ...stretch.holds.map(mark)]);
   return table(rows, ['instants, µs', ...stretches[0].holds.map((_, test) => `test ${test + 1}`)]);
 }
 
@@ -314,7 +325,7 @@ function drawTable(app, model) {
   const addresses = row => row.changes.map(({ lane, text }) => `${model.lanes[lane].name} ${text}`).join(', ');
   const line = row => [
     seconds(row.at), names(row.from || []), row.type === 'round' ? receivers(row) : '', link(what(row), () => app.select(row)),
-    row.verdict || '', addresses(row), (row.remarks || []).join('; '),
+    row.verdict || '', addresses(row), (row.remarks || []).map(remark => remark.text).join('; '),
   ];
   const page = first => app.openTable(first);
   return [
@@ -326,27 +337,10 @@ function drawTable(app, model) {
   ];
 }
 
-const DECKS = {
-  __proto__: null, 11: 'play', 14: 'still', 17: 'fast forward', 18: 'fast reverse', 19: 'no medium', '1a': 'stop',
-  '1b': 'skip forward', '1c': 'skip reverse',
-};
 function drawDevices(app, model) {
-  const shown = (key, value) => {
-    if (value === null || value === undefined) return '–';
-    if (key === 'deck') return DECKS[value] || value;
-    if (key === 'menu_language' || key === 'osd_text') return asciiOf(value);
-    if (typeof value === 'boolean') return value ? 'on' : 'off';
-    if (Array.isArray(value)) return value.map(one => one ?? '–').join('+');
-    if (typeof value === 'object') {
-      const opcode = asText(value.opcode);
-      return `${model.names.get(opcode) || opcode} from ${asText(value.initiator)}`;
-    }
-    return value;
-  };
   const keys = Object.keys(model.states[0].fields).filter(key => !['line', 'type', 'device', 'kind'].includes(key));
-  const line = key => [
-    html('span', { class: 'dim' }, key.replace(/_/g, ' ')), ...model.states.map(state => asText(shown(key, state.fields[key]))),
-  ];
+  const words = key => model.states.map(state => stateWord(model, key, state.fields[key]));
+  const line = key => [html('span', { class: 'dim' }, key.replace(/_/g, ' ')), ...words(key)];
   return [
     dim('Each device\'s record at the end. – is none.'),
     html('div', { class: 'wide' }, table(['kind', ...keys].map(line), ['', ...model.states.map(state => state.device)])),
@@ -368,8 +362,7 @@ function drawTalk(app, model) {
   }
   const sorted = [...counts.values()].sort((a, b) => (a.who < b.who ? -1 : a.who > b.who ? 1 : b.rounds - a.rounds));
   const search = ({ who, what }) => {
-    if (what === 'poll') return `poll ${who}`;
-    return model.isCapture ? `${what} ${who}>` : `${what} by ${who}`;
+    return `${what} ${who.split(' ').map(name => `from:${name}`).join(' ')}`;
   };
   const line = (count, i) => [
     i > 0 && sorted[i - 1].who === count.who ? '' : count.who, link(count.what, () => app.searchFor(search(count))), count.rounds,
@@ -380,6 +373,11 @@ function drawTalk(app, model) {
     table(sorted.map(line), ['sender', 'what', 'rounds', 'taken']),
   ];
 }
+
+/* A rule that an EDID breaks: what it asks with its section, and the value at fault, in the program's words. */
+const findingOf = ({ rule, said }) => html(
+  'div', { class: 'finding' }, html('code', { class: 'bad' }, rule), said.map(line => html('p', {}, line)),
+);
 
 /* The physical address in an EDID in hex: what follows the registration of HDMI's vendor block. */
 function physicalIn(edid) {
@@ -400,18 +398,18 @@ function drawEdids(app, model) {
   const meant = line => [line.startsWith(' ') ? html('span', { class: 'dim' }, line) : line, '\n'];
   const meaning = ({ name, text }) => [html('h3', {}, name), html('pre', {}, text.split('\n').map(meant))];
   return [
-    model.findings.length > 0 && [html('h3', {}, 'Rules that it breaks'), list(model.findings)],
+    model.findings.length > 0 && [html('h3', {}, 'Rules that it breaks'), model.findings.map(findingOf)],
     model.ports.map(port), model.ports.length > 1 && dim('Red: bytes that the first one has otherwise.'),
     model.meanings.map(meaning),
   ];
 }
 
 function drawNotes(app, model) {
-  const { faults, audit } = model;
+  const { faults, ofAll } = model;
   const others = faults.length > 50 ? [`and ${faults.length - 50} more`] : [];
   return [
     faults.length > 0 && [html('h3', {}, 'Of the data'), list([...faults.slice(0, 50), ...others])],
-    hasAudit(model) && [html('h3', {}, 'Audit of all readings'), html('pre', {}, audit.ofAll.join('\n'))],
+    hasAudit(model) && [html('h3', {}, 'Audit of all readings'), html('pre', {}, ofAll.join('\n'))],
   ];
 }
 
@@ -419,10 +417,10 @@ export const COMMANDS = `./hdminet run --json < x.net > x.jsonl                 
 ./hdminet run --edges --as vcd --drives < x.net > x.vcd       the wave, and who pulls
 x.net                                                         what the events say, and plugs
 ./hdminet check --json < x.test > report.jsonl                a report of tests
-./hdminet mon --json --from-start < capture.vcd > x.jsonl     a capture: also capture.vcd itself
-./hdminet mon --audit < capture.vcd > audit.txt               and what the audit remarks
+./hdminet mon --audit --json < capture.vcd > x.jsonl          a capture and its audit: also capture.vcd itself
 ./hdminet dis --meaning < frames.hex > x.meant                what frames mean, by their bytes in hex
-./hdminet edid --meaning < tv.edid > tv.meaning               an EDID`;
+./hdminet edid --meaning < tv.edid > tv.meaning               an EDID
+./hdminet edid --check --explain < tv.edid 2> tv.rules        and the rules that it breaks`;
 
 export function help() {
   const marks = [
@@ -443,12 +441,21 @@ export function help() {
     ['Enter', 'unfold attempts, or show the wave of the round'],
     ['n N', 'next and previous row that is nack, refused or broken, or a failed test'],
     ['/', 'search; Escape clears'],
+    ['g Ctrl-G', 'go to a time'],
     ['w c', 'to the wave, to the chart; Tab to all parts'],
     ['+ - ← → 0 f', 'in the wave: zoom, pan, all, the selected round'],
     [', . < >', 'in the wave: cursor A and B to the edge before, after'],
     ['o e m t ?', 'open, SVG, Mermaid, light or dark, this'],
   ];
+  const searches = [
+    ['words', 'rows that have all of them: opcode, device, verdict, time, line'],
+    ['from:amp to:amp', 'what a device sends, or is sent; also an address, from:5, and to:all'],
+    ['op:82 op:standby', 'frames with an opcode'],
+    ['t:3.1..3.2', 'rows of a time; also t:3.1.., t:..3.2, t:3.1'],
+    ['not to:all', 'rows that do not meet the next word'],
+  ];
   return [
-    html('h2', {}, 'Marks'), table(marks), html('h2', {}, 'Keys'), table(keys), html('h2', {}, 'Data'), html('pre', {}, COMMANDS),
+    html('h2', {}, 'Marks'), table(marks), html('h2', {}, 'Search'), table(searches), html('h2', {}, 'Keys'), table(keys),
+    html('h2', {}, 'Data'), html('pre', {}, COMMANDS),
   ];
 }

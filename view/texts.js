@@ -10,13 +10,14 @@ export function kindOf(text) {
   if (/^(warn|fail) [a-z-]+/.test(first)) return 'findings';
   if (/^[0-9a-f]>[0-9a-f]( |$)/.test(first)) return 'sentences';
   if (/^TAP version|^\d+ event \d|^\d+ port \w/.test(first)) return 'plain';
-  if (/^\d+ \d+ (complete|short|silent|bad-start|long|open|joined) /.test(first)) {
-    return /\n {2}\S/.test(text) ? 'audit' : 'plain';
-  }
+  if (/^\d+ \d+ (complete|short|silent|bad-start|long|open|joined) /.test(first)) return 'plain';
   if (/^script$/m.test(text)) return 'room';
   if (/^\d+ (0|1|end)$/.test(first) || (first.startsWith('#') && /^\d+ [01]$/m.test(text))) return 'edges';
   return text.trim() === '' ? 'empty' : 'unknown';
 }
+
+/* Whether objects are those of an audit: beside a run they tell of its rounds. */
+export const isAudit = text => kindOf(text) === 'objects' && /"type":"(summary|remark|note)"/.test(text);
 
 export const asText = value => (value === null || value === undefined ? '' : String(value));
 const asNumber = value => (typeof value === 'number' && Number.isFinite(value) ? value : null);
@@ -24,8 +25,10 @@ export const asList = value => (Array.isArray(value) ? value : []);
 
 const emptyRoom = () => ({ devices: [], plugs: [], script: new Map(), expectations: [] });
 
-/* An object of `run --json --room` that stands before the trace. */
-function addHead({ type, device, kind, parent, port }, room) {
+/** An object of `run --json --room` that stands before the trace.
+    @param {any} object */
+function addHead(object, room) {
+  const { type, device, kind, parent, port } = object;
   if (type === 'device') room.devices.push({ name: device, kind });
   if (type === 'plug') room.plugs.push([device, parent, port]);
 }
@@ -39,10 +42,42 @@ export function readSentences(text, sentences) {
   }
 }
 
+/* What `edid --check --explain` says of an EDID: each rule that it breaks, with what the rule asks and the values at fault. */
+export function readFindings(text) {
+  const findings = [];
+  for (const line of text.split('\n')) {
+    if (/^(fail|warn) /.test(line)) findings.push({ rule: line, said: [] });
+    else if (line.startsWith('  ') && findings.length > 0) findings[findings.length - 1].said.push(line.trim());
+  }
+  return findings;
+}
+
+/* An object of a run, of a reading, of what an audit says of the last reading, or of a device at an instant. */
+function addTold(object, model, last) {
+  const { type, line } = object;
+  if (type === 'remark' || type === 'note') {
+    const said = { text: line.trim(), kind: object.kind, section: object.section, attempt: object.attempt };
+    if (last.reading) last.reading[`${type}s`].push(said);
+    else model.ofAll.push(said.text);
+  } else if (type === 'summary') {
+    last.reading = null;
+  } else if (type === 'sender' || type === 'widths') {
+    if (!last.reading) model.ofAll.push(line.trim());
+  } else if (type === 'horizon') {
+    last.horizon = object.at;
+  } else if (type === 'state' && line.startsWith('= ')) {
+    if (last.horizon !== null) model.changes.push({ before: last.horizon, state: object });
+  } else {
+    if (type === 'reading') last.reading = object;
+    model.objects.push(object);
+  }
+}
+
 /* Objects of JSON, one a line (docs/formats.md, "Objects of JSON"), put into a model. */
 export function readObjects(text, model) {
   let inReport = false; // below a test stand the rounds that it saw, up to the object `trace`
   let test = null;
+  const last = { reading: null, horizon: null };
   const unknown = new Map(); // types of a later program, by how many there are
   text.split('\n').forEach((line, index) => {
     if (line.trim() === '') return;
@@ -74,7 +109,8 @@ export function readObjects(text, model) {
     } else {
       object.line = object.line.replace(/^# /, ''); // as it stands in a report
       if (object.text) (model.room ||= emptyRoom()).script.set(object.scriptLine, `at ${object.at} ${object.text}`);
-      (inReport && test && object.type !== 'plan' ? test.seen : model.objects).push(object);
+      if (inReport && test && object.type !== 'plan') test.seen.push(object);
+      else addTold(object, model, last);
     }
   });
   for (const [type, count] of unknown) {
@@ -119,6 +155,16 @@ function cleaned(o) {
       return { type, line, device: asText(o.device), kind: asText(o.kind) };
     case 'plug':
       return { type, line, device: asText(o.device), parent: asText(o.parent), port: asText(o.port) };
+    case 'remark':
+    case 'note':
+      return { type, line, kind: asText(o[type]), section: asText(o.section), attempt: asNumber(o.attempt) };
+    case 'horizon':
+      return { type, line, at: asNumber(o.at) };
+    case 'summary':
+    case 'sender':
+    case 'widths':
+    case 'edge':
+    case 'refusal':
     case 'edid':
     case 'pulse':
     case 'pull':
@@ -149,7 +195,7 @@ function cleanedRound(type, line, o) {
     bits: asText(o.bits),
     by: asList(o.by).map(asText),
     out: asList(o.out).map(x => ({ device: asText(x && x.device), slot: asNumber(x && x.slot) })),
-    row: null, slots: null, slotsOf: null,
+    remarks: [], notes: [], row: null, slots: null, slotsOf: null,
   };
 }
 
@@ -259,6 +305,9 @@ export function readEdges(text) {
   return { line, devices: [], pulses: null, end };
 }
 
+/* The line that is low where that of these changes is high; before the first instant both are high, as `mon --invert` has it. */
+export const turned = changes => (changes[0] === 0 ? changes.slice(1) : [0, ...changes]);
+
 /* Leaves out pulses and gaps that are shorter, as `mon --glitch` does: from the left on, of two changes that are closer both. */
 export function smoothed(changes, shortest) {
   const kept = [];
@@ -285,27 +334,6 @@ export function readRoom(text) {
     if (line.startsWith('expect ')) room.expectations.push(line);
   });
   return room;
-}
-
-/* A line of an audit that only says what was read, or what the standard calls it. */
-const isNote = line => line.startsWith('  read ') || line.startsWith('  # ');
-
-/* What `mon --audit` remarks and notes: by the line of the reading, and of all readings. */
-export function readAudit(text) {
-  const remarks = new Map();
-  const notes = new Map();
-  const ofAll = [];
-  let reading = null;
-  for (const line of text.split('\n')) {
-    if (!line.startsWith('  ')) {
-      reading = line;
-      remarks.set(reading, []);
-      notes.set(reading, []);
-    } else if (line === '  all readings') reading = '';
-    else if (reading) (isNote(line) ? notes : remarks).get(reading).push(line.trim());
-    else ofAll.push(line.trim());
-  }
-  return { remarks, notes, ofAll };
 }
 
 /* The first index of a sorted list whose value is at least `least`. */

@@ -2,31 +2,115 @@
 
 import { asMermaid, Chart } from './chart.js';
 import { byId, counted, html } from './elements.js';
-import { addWave, build, findIn, isWave } from './model.js';
+import { finder } from './find.js';
+import { addWave, build, isWave } from './model.js';
 import { COMMANDS, drawSweep, help, PANELS } from './panels.js';
 import { acknowledgersOf, slotsOf } from './slots.js';
-import { asText, kindOf, lowerBound, readDump } from './texts.js';
+import { nearest, Strip, timeInAddress } from './strip.js';
+import { asText, isAudit, kindOf, readDump } from './texts.js';
 import { meaningOf } from './words.js';
 import { Wave, wavesHeight } from './wave.js';
 
 const CHIPS = ['ack', 'ok', 'nack', 'refused', 'broken', 'poll', 'event'];
 const FAILED = ['nack', 'refused', 'broken', 'failed'];
-/* What is drawn last on the strip, so that it is never hidden. */
-const RANKS = { __proto__: null, event: 2, nack: 3, refused: 4, broken: 5, failed: 5 };
 const COLOURS = ['ink', 'bg', 'dim', 'rule', 'low', 'ack', 'ok', 'nack', 'refused', 'broken', 'poll', 'event'];
-const STRIP = 34;
 const MOST_EXPORTED = 5000; // rows
 const LATER = 1 << 20; // a wave of so many characters is read after the first picture
+/** @type {(target: any) => boolean} */
+const isInput = target => /^(INPUT|TEXTAREA|SELECT)$/.test(target.tagName);
 const isFailed = row => FAILED.includes(row.cls) || (row.type === 'event' && row.o.verdict !== 'ok');
 
 class App {
+  model = build([]);
+  texts = [];
+  /* What the page was made of: its readings, of which one is shown. */
+  data = null;
+  reading = 0;
+  isReading = true;
+  isWaiting = false;
+  selected = null;
+  banded = null;
+  hidden = new Set();
+  unfolded = new Set();
+  panel = 'selected';
+  tableFrom = null;
+  colours = {};
+  exportedText = '';
+  strip = null;
+  chart = null;
+  wave = null;
+  quiet = 0;
+  telling = 0;
+  /* What else is to be done where a row is selected. */
+  onSelect = () => {};
+
   constructor() {
-    Object.assign(this, {
-      model: build([]), texts: [], isReading: true, isWaiting: false, selected: null, banded: null, hidden: new Set(),
-      unfolded: new Set(), panel: 'selected', tableFrom: null, colours: {}, exportedText: '',
-    });
+    this.strip = new Strip(this, byId('strip'));
     this.chart = new Chart(this, byId('chart'), byId('heads'), byId('space'));
     this.wave = new Wave(this, byId('line'), byId('reading'));
+  }
+
+  /* Shows the data of a page. */
+  async openData(data) {
+    this.data = data;
+    await this.openReading(data.first);
+  }
+  /* Shows one of the readings that are in the page: of a capture there is one for each flag that the program advises. */
+  async openReading(index) {
+    const { texts, readings, title } = this.data;
+    const { texts: places, how } = readings[index];
+    const parts = places.map((place, i) => ({ ...texts[place], ...(i === 0 ? { name: title || texts[place].name } : {}), how }));
+    const readOne = async part => ({ ...part, name: asText(part.name), text: await inflated(part) });
+    const read = wanted => Promise.all(wanted.map(readOne));
+    const waves = parts.filter(part => part.wave && part.size > LATER);
+    this.reading = index;
+    this.isWaiting = waves.length > 0;
+    const first = await read(parts.filter(part => !waves.includes(part)));
+    if (this.reading !== index) return; // another one was asked for meanwhile
+    await this.load(first);
+    this.showBanner();
+    this.isWaiting = waves.length > 0;
+    requestAnimationFrame(() => performance.mark('first picture'));
+    if (waves.length > 0) await this.loadWaves(() => read(waves));
+  }
+  /* Of a sweep the page has the run of the first instant of each stretch. */
+  readingOf(instant) {
+    return this.data ? this.data.readings.findIndex(one => one.instant === instant) : -1;
+  }
+  hasInstant(instant) {
+    return this.readingOf(instant) >= 0;
+  }
+  openInstant(instant) {
+    const index = this.readingOf(instant);
+    if (index >= 0) this.openReading(index);
+    else this.say('the run of this instant is not in this page');
+  }
+  /* What the program says for the user, and what else the capture may be read with. */
+  showBanner() {
+    const readings = this.data ? this.data.readings : [];
+    const { frames, flags, said, instant } = readings[this.reading] || { frames: 0, flags: '', said: [], instant: null };
+    const inWords = one => (one.flags ? `with ${one.flags}` : 'as it is');
+    const more = one => {
+      const difference = one.frames - frames;
+      return `${counted(Math.abs(difference), 'frame')} ${difference < 0 ? 'fewer' : 'more'}`;
+    };
+    const button = index => html(
+      'button', { click: () => this.openReading(index) }, `Read ${inWords(readings[index])}: ${more(readings[index])}`,
+    );
+    const says = ({ text }) => `The program says: ${text}. `;
+    const from = readings.findIndex(one => one.said.some(line => line.readings.includes(this.reading)));
+    const why = from < 0 ? null : readings[from].said.find(line => line.readings.includes(this.reading));
+    const isInstant = Number.isFinite(instant);
+    const lines = [
+      isInstant && html('p', {}, html('b', {}, `The run at ${instant} µs of the sweep. `),
+        html('button', { click: () => this.openReading(0) }, 'The whole sweep')),
+      this.reading !== 0 && !isInstant && html(
+        'p', {}, html('b', {}, `Read with ${flags}. `), why && says(why), button(Math.max(from, 0))),
+      said.map(line => html('p', {}, says(line), line.readings.filter(index => index !== this.reading).map(button))),
+    ];
+    const banner = byId('banner');
+    banner.replaceChildren(html('div', {}, lines));
+    banner.hidden = this.reading === 0 && said.length === 0;
   }
 
   /* Takes texts in the place of those that are there, or beside them. A long wave is added after the first picture. */
@@ -47,7 +131,7 @@ class App {
     const waves = await read();
     if (loaded !== this.texts) return; // others were loaded meanwhile
     for (const one of waves) if (!loaded.includes(one)) loaded.push(one);
-    for (const one of waves) addWave(this.model, one, loaded[0]);
+    for (const one of waves) addWave(this.model, one);
     this.isWaiting = false;
     this.showWave();
     this.drawStrip(true);
@@ -72,9 +156,11 @@ class App {
     for (const id of ['wave', 'wave-bar', 'strip']) byId(id).hidden = isEmpty;
     this.filter();
     this.showWave();
+    const rowsAreThere = model.rows.length > 0;
     const failure = model.tests.find(test => !test.holds);
     if (failure) this.showTest(failure);
     else this.drawPanel();
+    if (rowsAreThere) this.goToAddress();
   }
   countsText() {
     const { rounds, tests, faults } = this.model;
@@ -107,25 +193,29 @@ class App {
     const texts = await Promise.all([...files].map(async file => ({ name: file.name, text: await file.text() })));
     if (texts.length > 0) await this.loadGiven(texts);
   }
-  /* Objects are a new run; anything else is added to what is there. */
+  /* Objects are a new run; anything else, also the audit of a run's line, is added to what is there. */
   loadGiven(texts) {
-    return this.load(texts, this.texts.length > 0 && texts.every(({ text }) => kindOf(text) !== 'objects'));
+    this.data = null;
+    this.reading = 0;
+    this.showBanner();
+    const isRun = this.model.rounds.length > 0 && !this.model.isCapture;
+    const isMore = ({ text }) => kindOf(text) !== 'objects' || (isRun && isAudit(text));
+    return this.load(texts, this.texts.length > 0 && texts.every(isMore));
   }
   loadPasted(text) {
     if (text.trim()) this.loadGiven([{ name: 'pasted', text }]);
   }
 
-  /* Which rows are shown: those that have all words of the search, whose chip is on; attempts that failed alike are folded. */
+  /* Which rows are shown: those that the search finds, whose chip is on; attempts that failed alike and bad starts are folded. */
   filter() {
-    const words = byId('search').value.toLowerCase().split(/\s+/).filter(Boolean);
+    const isFound = finder(this.model, byId('search').value);
     const rows = [];
     for (const row of this.model.rows) {
       row.folded = row.into = null;
       if (this.hidden.has(row.cls) && row.type !== 'test') continue;
-      const isFound = row.type !== 'gap' && row.type !== 'end' && words.every(word => findIn(row).includes(word));
-      if (words.length > 0 && !isFound) continue;
+      if (isFound && !isFound(row)) continue;
       const last = rows[rows.length - 1];
-      if (words.length === 0 && last && this.isFoldedInto(row, last)) {
+      if (!isFound && last && this.isFoldedInto(row, last)) {
         last.folded = last.folded || [last];
         last.folded.push(row);
         row.into = last;
@@ -140,11 +230,18 @@ class App {
   }
   isFoldedInto(row, last) {
     if (row.type !== 'round' || last.type !== 'round' || this.unfolded.has(row.first)) return false;
-    return row.first === last.first && row.cls === last.cls && (row.cls === 'nack' || row.cls === 'refused');
+    const isOfKind = row.cls === 'nack' || row.cls === 'refused' || row.o.ending === 'bad-start';
+    return row.first === last.first && row.cls === last.cls && isOfKind;
   }
   searchFor(text) {
     byId('search').value = text;
     this.filter();
+  }
+
+  /* What a device sends; what it is sent, where that is shown; and then all. */
+  searchForLane(name) {
+    const now = byId('search').value;
+    this.searchFor(now === `from:${name}` ? `to:${name}` : now === `to:${name}` ? '' : `from:${name}`);
   }
 
   select(row, { keepsWave = false, keepsPanel = false } = {}) {
@@ -158,17 +255,19 @@ class App {
       this.filter();
     }
     this.selected = row;
-    if (!keepsPanel && !(this.panel === 'report' && this.banded)) this.panel = 'selected';
-    this.chart.drawn = null;
+    if (!keepsPanel && !(this.panel === 'report' && this.banded) && this.panel !== 'room') this.panel = 'selected';
     this.chart.reveal(row);
     this.chart.draw();
+    this.chart.mark(row);
     byId('chart').setAttribute('aria-activedescendant', `row${row.index}`);
     if (!keepsWave && this.model.wave) {
       if (row.type === 'round') this.wave.showRound(row.o);
       else this.wave.see(row.at - 60000, (row.until ?? row.at) + 60000);
     }
     this.wave.drawSoon();
-    if (!keepsPanel) this.drawPanel();
+    this.tellAddress();
+    this.onSelect();
+    if (!keepsPanel || this.panel === 'room') this.drawPanel();
   }
   /* Unfolds or folds attempts, or shows the wave of a round. */
   toggle(row) {
@@ -184,6 +283,7 @@ class App {
   /* Marks the window of a test, and selects what was seen. */
   showTest(test) {
     this.banded = test;
+    this.chart.drawn = null;
     this.panel = 'report';
     const { rows } = this.model;
     const { window } = test;
@@ -217,6 +317,7 @@ class App {
     const focused = document.activeElement && document.activeElement.closest('#tabs, #chips') ? document.activeElement.id : '';
     const tab = ([name, panel]) => html('button', {
       id: `tab-${name}`, role: 'tab', 'aria-selected': String(name === this.panel), 'aria-controls': 'panel',
+      tabindex: name === this.panel ? 0 : -1,
       click: () => this.openPanel(name),
     }, panel.name);
     byId('tabs').replaceChildren(...Object.entries(PANELS).filter(([, panel]) => panel.isThere(model)).map(tab));
@@ -241,7 +342,7 @@ class App {
     const { rows, stretches, tests, meanings } = this.model;
     if (rows.length > 0) return html('p', { class: 'empty dim' }, 'No row meets the search.');
     if (this.isReading) return html('p', { class: 'empty dim' }, 'The data is being read ..');
-    if (stretches.length > 0) return html('div', { class: 'empty' }, drawSweep(this.model));
+    if (stretches.length > 0) return html('div', { class: 'empty' }, drawSweep(this, this.model));
     if (tests.length > 0 || meanings.length > 0) return html('p', { class: 'empty dim' }, 'No rounds: the data is at the right.');
     return html(
       'div', { class: 'empty' },
@@ -254,50 +355,51 @@ class App {
 
   /* The whole run in one strip. The rows in sight and the wave's part are marked. */
   drawStrip(isChanged) {
-    const canvas = byId('strip');
-    const { chart, model, colours, wave } = this;
-    const width = canvas.clientWidth;
-    const scale = devicePixelRatio || 1;
-    if (!width || !chart) return;
-    const x = instant => (instant / model.end) * width;
-    const pixels = Math.max(Math.round(width * scale), 1);
-    if (isChanged || !this.strip || this.strip.width !== pixels) this.strip = this.wholeStrip(pixels, scale, x);
-    const pen = canvas.getContext('2d');
-    canvas.width = this.strip.width;
-    canvas.height = this.strip.height;
-    pen.drawImage(this.strip, 0, 0);
-    pen.scale(scale, scale);
-    const [first, last] = chart.sight().map(i => chart.shown[i]);
-    if (first) {
-      pen.fillStyle = colours.ink;
-      pen.globalAlpha = 0.12;
-      pen.fillRect(x(first.at), 0, Math.max(x(last.until ?? last.at) - x(first.at), 3), STRIP);
-      pen.globalAlpha = 1;
-    }
-    if (!model.wave) return;
-    const from = x(Math.max(wave.from, 0));
-    pen.fillStyle = colours.ok;
-    pen.fillRect(from, STRIP - 5, Math.max(x(wave.to) - from, 3), 4);
+    if (this.strip) this.strip.draw(isChanged);
   }
-  wholeStrip(pixels, scale, x) {
-    const strip = new OffscreenCanvas(pixels, Math.round(STRIP * scale));
-    const pen = strip.getContext('2d');
-    pen.scale(scale, scale);
-    for (const rank of [0, 2, 3, 4, 5]) {
-      for (const row of this.chart.shown) {
-        if ((RANKS[row.cls] || 0) !== rank || row.type === 'gap' || row.type === 'end') continue;
-        pen.fillStyle = this.colours[row.cls] || this.colours.dim;
-        if (row.type === 'event') pen.fillRect(x(row.at) - 1, 0, 2, 8);
-        else if (row.type === 'test') pen.fillRect(x(row.at) - 1, 0, 3, STRIP);
-        else pen.fillRect(x(row.at), 11, Math.max(x(row.until ?? row.at) - x(row.at), 1), 14);
-      }
-    }
-    return strip;
-  }
+  /* Selects the row that is nearest to a part of the whole; idle time is none. */
   selectAt(part) {
-    const { shown } = this.chart;
-    const row = shown[Math.min(lowerBound(shown, part * this.model.end, one => one.at), shown.length - 1)];
+    this.goToTime(part * this.model.end);
+  }
+  goToTime(instant) {
+    const row = nearest(this.chart.shown.filter(one => one.type !== 'gap'), instant);
     if (row) this.select(row);
+  }
+  /* The selected moment stands in the page's address, to share it: `#t=1.068400&sel=5`. */
+  tellAddress() {
+    clearTimeout(this.telling);
+    const { selected } = this;
+    if (!selected) return;
+    this.telling = setTimeout(() => {
+      try {
+        history.replaceState(null, '', `#t=${timeInAddress(selected)}&sel=${selected.index}`);
+      } catch {
+        // a browser that does not let a file have an address of its own
+      }
+    }, 300);
+  }
+  /* Goes to the moment that the address names, and says whether it names one. */
+  goToAddress() {
+    const found = /^#t=(\d+(?:\.\d+)?)(?:&sel=(\d+))?$/.exec(location.hash);
+    if (!found) return false;
+    const row = this.model.rows[Number(found[2])];
+    if (row && timeInAddress(row) === found[1]) this.select(row);
+    else this.goToTime(Number(found[1]) * 1e6);
+    return true;
+  }
+  askForTime() {
+    const how = { type: 'text', inputmode: 'decimal', 'aria-label': 'Seconds', placeholder: 'seconds, as 3.127' };
+    const field = html('input', how);
+    const go = () => {
+      const time = Number(field.value.trim());
+      byId('dialog').close();
+      byId('chart').focus();
+      if (field.value.trim() !== '' && Number.isFinite(time)) this.goToTime(time * 1e6);
+      else this.say('no time in seconds');
+    };
+    field.addEventListener('keydown', event => event.key === 'Enter' && go());
+    this.showDialog(html('h2', {}, 'Go to a time'), html('p', {}, field, ' ', html('button', { click: go }, 'Go')));
+    field.focus();
   }
 
   setTheme(name) {
@@ -385,10 +487,15 @@ class App {
       if (this.chart.shown[0]) this.select(this.chart.shown[0]);
       return;
     }
-    const isTyping = /INPUT|TEXTAREA/.test(target.tagName);
-    if (isTyping || event.ctrlKey || event.metaKey || event.altKey || byId('dialog').open) return;
+    if (event.ctrlKey && event.key === 'g') {
+      event.preventDefault();
+      this.askForTime();
+      return;
+    }
+    if (isInput(target) || event.ctrlKey || event.metaKey || event.altKey || byId('dialog').open) return;
     const isOfChart = /^(BODY|SECTION)$/.test(target.tagName);
-    const keys = { ...this.pageKeys(), ...(isOfChart ? this.chartKeys() : {}) };
+    const isOfTabs = target.getAttribute('role') === 'tab';
+    const keys = { ...this.pageKeys(), ...(isOfChart ? this.chartKeys() : {}), ...(isOfTabs ? this.tabKeys() : {}) };
     if (!Object.hasOwn(keys, event.key)) return;
     keys[event.key]();
     event.preventDefault();
@@ -397,6 +504,7 @@ class App {
     return {
       '/': () => byId('search').focus(),
       '?': () => this.showHelp(),
+      g: () => this.askForTime(),
       o: () => this.showOpen(),
       e: () => this.exportSvg(),
       m: () => this.copyMermaid(),
@@ -418,6 +526,17 @@ class App {
       End: () => this.goTo(this.chart.shown.length - 1),
       Enter: () => this.selected && this.toggle(this.selected),
     };
+  }
+  /* Between the tabs of the side panel. */
+  tabKeys() {
+    const tabs = [...byId('tabs').children];
+    const at = tabs.indexOf(document.activeElement);
+    const go = place => {
+      const { id } = tabs[(place + tabs.length) % tabs.length];
+      byId(id).click();
+      byId(id).focus();
+    };
+    return { ArrowRight: () => go(at + 1), ArrowLeft: () => go(at - 1), Home: () => go(0), End: () => go(tabs.length - 1) };
   }
   /* The place of the selected row among those that are shown. */
   get place() {
@@ -465,23 +584,19 @@ function makeBar(bar, isVertical, size, resize) {
   });
 }
 
-/* The text of a part that tools/page put in: base64 of zlib. */
-async function inflated({ deflated }) {
+/* The text of a part that tools/page put in: base64 of zlib, or as it is. */
+async function inflated({ deflated, text }) {
+  if (text !== undefined) return text;
   const packed = atob(deflated);
   const bytes = new Uint8Array(packed.length);
   for (let i = 0; i < packed.length; i++) bytes[i] = packed.charCodeAt(i);
   return new Response(new Blob([bytes]).stream().pipeThrough(new DecompressionStream('deflate'))).text();
 }
 async function loadEmbedded(app) {
-  const parts = JSON.parse(byId('data').textContent) || [];
-  const readOne = async part => ({ ...part, name: asText(part.name), text: await inflated(part) });
-  const read = wanted => Promise.all(wanted.map(readOne));
-  const waves = parts.filter(part => part.wave && part.size > LATER);
-  app.isWaiting = waves.length > 0;
-  await app.load(await read(parts.filter(part => !waves.includes(part))));
-  app.isWaiting = waves.length > 0;
+  app.data = JSON.parse(byId('data').textContent);
+  if (app.data) await app.openData(app.data);
+  else await app.load([]);
   requestAnimationFrame(() => performance.mark('first picture'));
-  if (waves.length > 0) await app.loadWaves(() => read(waves));
   performance.mark('loaded');
 }
 
@@ -492,19 +607,21 @@ function listen(app) {
   onClick('mermaid', () => app.copyMermaid());
   onClick('theme', () => app.setTheme());
   onClick('help', () => app.showHelp());
-  onClick('strip', event => app.selectAt(event.offsetX / event.target.clientWidth));
   byId('search').addEventListener('input', () => app.filter());
-  byId('file').addEventListener('change', event => {
+  byId('file').addEventListener('change', (/** @type {any} */ event) => {
     byId('dialog').close();
     app.loadFiles(event.target.files);
     event.target.value = '';
   });
   document.addEventListener('keydown', event => app.key(event));
+  window.addEventListener('hashchange', () => app.goToAddress());
+  window.addEventListener('beforeprint', () => app.chart.print());
+  window.addEventListener('afterprint', () => app.chart.drawAnew());
   document.addEventListener('paste', event => {
-    if (!/INPUT|TEXTAREA/.test(event.target.tagName)) app.loadPasted(event.clipboardData.getData('text'));
+    if (!isInput(event.target)) app.loadPasted(event.clipboardData.getData('text'));
   });
   for (const kind of ['dragenter', 'dragover', 'dragleave', 'drop']) {
-    document.addEventListener(kind, event => {
+    document.addEventListener(kind, (/** @type {any} */ event) => {
       event.preventDefault();
       byId('drop').hidden = kind === 'drop' || (kind === 'dragleave' && !event.relatedTarget);
       if (kind === 'drop') app.loadFiles(event.dataTransfer.files);
@@ -519,7 +636,7 @@ function listen(app) {
   });
 }
 
-const app = new App();
+export const app = new App();
 app.setTheme(matchMedia('(prefers-color-scheme: dark)').matches ? 'dark' : 'light');
 listen(app);
 loadEmbedded(app).catch(fault => {

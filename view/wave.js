@@ -3,6 +3,7 @@
 import { CHARACTER } from './chart.js';
 import { seconds, shortened } from './elements.js';
 import { blockOf, isWithin, lowWindow, partOf, pullersAt, SLOT, slotsOf, WINDOWS } from './slots.js';
+import { stepOf } from './strip.js';
 import { lowerBound } from './texts.js';
 
 const WIRE = 24; // height of a wire, in pixels
@@ -12,13 +13,28 @@ const NAMES = 104; // width of the names
 const NEAR = 7; // pixels in which a cursor stands on an edge
 const LEAST_SIGHT = 40; // microseconds
 const LEGEND = 'Wheel: zoom.  Drag: pan.  Click: cursor A.  Shift-click: cursor B.  Click a frame: select it.';
-const NO_WAVE = 'No wave: add  hdminet run --edges --as vcd --drives < x.net  or the capture itself to see the line.';
+const NO_WAVE = 'No wave: add  hdminet run --edges --as vcd --drives < x.net  to see the line.';
+const NO_CAPTURE = 'No wave: add the capture where it is a dump or an edge file; tools/look shows the wave of each form.';
 
 export const wavesHeight = wires => RULER + READ + WIRE * wires + 30;
 
 export class Wave {
+  /* What is in sight, in microseconds. */
+  from = 0;
+  to = 1e6;
+  cursors = [null, null];
+  mouse = null;
+  scroll = 0;
+  drag = null;
+  due = 0;
+  width = 0;
+  height = 0;
+  pen = null;
+
   constructor(app, canvas, output) {
-    Object.assign(this, { app, canvas, output, from: 0, to: 1e6, cursors: [null, null], mouse: null, scroll: 0, drag: null });
+    this.app = app;
+    this.canvas = canvas;
+    this.output = output;
     new ResizeObserver(() => this.drawSoon()).observe(canvas);
     canvas.addEventListener('wheel', event => this.wheel(event), { passive: false });
     canvas.addEventListener('pointerdown', event => this.press(event));
@@ -198,7 +214,7 @@ export class Wave {
     this.height = canvas.clientHeight;
     if (!this.width || !this.height) return;
     const [width, height] = [Math.round(this.width * scale), Math.round(this.height * scale)];
-    if (canvas.width !== width || canvas.height !== height) Object.assign(canvas, { width, height });
+    if (canvas.width !== width || canvas.height !== height) [canvas.width, canvas.height] = [width, height];
     const pen = (this.pen = canvas.getContext('2d'));
     pen.setTransform(scale, 0, 0, scale, 0, 0);
     pen.clearRect(0, 0, this.width, this.height);
@@ -215,7 +231,8 @@ export class Wave {
     });
     if (wires.length === 0) {
       pen.fillStyle = this.app.colours.dim;
-      pen.fillText(this.app.isWaiting ? 'The wave is being read ..' : NO_WAVE, NAMES, this.height - 10);
+      const none = this.app.model.isCapture ? NO_CAPTURE : NO_WAVE;
+      pen.fillText(this.app.isWaiting ? 'The wave is being read ..' : none, NAMES, this.height - 10);
     }
     this.output.textContent = this.reading() || LEGEND;
     this.app.drawStrip(false);
@@ -297,9 +314,7 @@ export class Wave {
   drawRuler() {
     const { pen } = this;
     const { colours } = this.app;
-    const wanted = this.perPixel * 110;
-    const power = Math.pow(10, Math.floor(Math.log10(wanted)));
-    const step = [1, 2, 5, 10].map(k => k * power).find(k => k >= wanted);
+    const step = stepOf(this.perPixel * 110);
     pen.fillStyle = colours.dim;
     pen.strokeStyle = colours.rule;
     for (let t = Math.ceil(Math.max(this.from, 0) / step) * step; t <= this.to; t += step) {
@@ -333,6 +348,7 @@ export class Wave {
       const label = round.ending === 'complete' ? `${round.frame} ${round.verdict}` : round.row.text;
       const shownFrom = Math.max(from, NAMES);
       const fitting = Math.floor((Math.min(to, this.width) - shownFrom - 8) / CHARACTER);
+      pen.fillStyle = colours.ink;
       if (fitting > 2) pen.fillText(shortened(label, fitting), shownFrom + 4, top + 9);
       if (slotPixels > 3.2) this.drawSlots(round, slotPixels);
     }

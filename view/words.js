@@ -1,6 +1,7 @@
 // Addresses, causes and endings in words: these tables are the page's own. What a frame means the program says (`dis --meaning`).
 
-import { deviceAt } from './model.js';
+import { asciiOf, deviceAt } from './model.js';
+import { asText } from './texts.js';
 
 const ADDRESSES = [
   'TV', 'Recording 1', 'Recording 2', 'Tuner 1', 'Playback 1', 'Audio System', 'Tuner 2', 'Tuner 3', 'Playback 2', 'Recording 3',
@@ -68,4 +69,22 @@ export function partyName(model, lane, instant) {
   if (model.isCapture) return `${osdName ? `"${osdName}" ` : ''}${kind} (${name})`;
   const then = deviceAt(model.lanes[lane], instant);
   return then && then.logical ? `${name} (${then.logical})` : name;
+}
+
+const DECKS = {
+  __proto__: null, 11: 'play', 14: 'still', 17: 'fast forward', 18: 'fast reverse', 19: 'no medium', '1a': 'stop',
+  '1b': 'skip forward', '1c': 'skip reverse',
+};
+/* A field of a state in words. */
+export function stateWord(model, key, value) {
+  if (value === null || value === undefined) return '–';
+  if (key === 'deck') return DECKS[value] || asText(value);
+  if (key === 'menu_language' || key === 'osd_text') return asciiOf(value);
+  if (typeof value === 'boolean') return value ? 'on' : 'off';
+  if (Array.isArray(value)) return value.map(one => one ?? '–').join('+');
+  if (typeof value === 'object') {
+    const opcode = asText(value.opcode);
+    return `${model.names.get(opcode) || opcode} from ${asText(value.initiator)}`;
+  }
+  return asText(value);
 }

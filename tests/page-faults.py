@@ -1,0 +1,132 @@
+#!/usr/bin/env python3
+"""Plants a fault of the page in a copy of it, one after another, and sees the tests of tests/page.py fail.
+
+    tests/page-faults.py BROWSER PROGRAM [NAME..]     all of them, or those whose names have one of these words
+    tests/page-faults.py --apply                      only sees that each edit still applies, which takes no browser
+
+It takes some minutes, so the gate does not run it; tests/page.sh sees that the edits apply. The last line is 'N of M are found'.
+"""
+import os
+import shutil
+import subprocess
+import sys
+import tempfile
+
+TOP = os.path.dirname(os.path.dirname(os.path.realpath(__file__)))
+ROOM, CAPTURE, WORDS, REPORT = "values_of_retries", "values_of_a_capture", "words_are_the_standards", "reports_are_shown"
+EVENING, LOOSE = "values_of_an_evening", "values_of_a_loose_device"
+
+# What is wrong, the file of view/, what stands there and what is planted, and the test that is to fail.
+PLANTS = [
+    ("a window of CEC 5.2", "slots.js", "one: [400, 800]", "one: [400, 900]", ROOM),
+    ("the names of addresses 8 and 9", "words.js", "'Playback 2', 'Recording 3',", "'Recording 3', 'Playback 2',", WORDS),
+    ("takes it, and is taken", "words.js", "(verdict === 'nack' ? 'Nobody", "(verdict !== 'nack' ? 'Nobody", ROOM),
+    ("free times", "panels.js", "12000 for a new initiator, 16800 for the last one", "16800 for a new initiator, 12000 for the last one",
+     ROOM),
+    ("times with five decimals", "elements.js", "toFixed(6)", "toFixed(5)", ROOM),
+    ("durations ten times too large", "elements.js", "Math.round(microseconds / 100) / 10", "Math.round(microseconds / 10) / 10", ROOM),
+    ("heads of lanes at the begin", "chart.js", "const at = now ? (now.until ?? now.at) : 0;", "const at = 0;", ROOM),
+    ("the strip's click mirrored", "strip.js", "selectAt(event.offsetX / this.width)", "selectAt(1 - event.offsetX / this.width)", ROOM),
+    ("idle time from a third of a second on", "model.js", "const FOLDED_IDLE = 250000;", "const FOLDED_IDLE = 350000;", EVENING),
+    ("an arbitration one slot too high", "chart.js", "at bit ${slot} of", "at bit ${slot + 1} of", ROOM),
+    ("attempts that are not the audit's", "model.js", "row.attempt = said ? said.attempt : null;",
+     "row.attempt = said ? said.attempt + 1 : null;", ROOM),
+    ("the time since the close, from the begin", "panels.js", "round.begin - before.close", "round.begin - before.begin", ROOM),
+    ("the words of two refusals", "words.js", "'not-plugged': 'it is plugged in nowhere'",
+     "'not-plugged': 'the device is not joined to the television'", WORDS),
+    ("a window that is out is in", "panels.js", "isIn ? 'in' : bad('out')", "'in'", CAPTURE),
+    ("when a bit is read", "slots.js", "const SAMPLE = 1050;", "const SAMPLE = 1500;", ROOM),
+    ("who acknowledges, before they do", "slots.js", "slots[slot].at + SAMPLE", "slots[slot].at - SAMPLE", ROOM),
+    ("which address is lost", "model.js", "text: shown || '–', was: lane.shown });\n      lane.shown",
+     "text: shown || '–', was: shown });\n      lane.shown", REPORT),
+    ("how long a round is", "panels.js", "${round.close - round.begin} later", "${round.close - round.begin + 1} later", ROOM),
+    ("free and taken", "model.js", "o.verdict === 'nack' ? 'free' : 'taken'", "o.verdict === 'ack' ? 'free' : 'taken'", ROOM),
+    ("the tooltip of a head", "chart.js", "`${lane.name}, ${lane.kind}: search", "`${lane.kind}, ${lane.name}: search", ROOM),
+    ("the slot at a loser's mark", "chart.js", "`out @${loser.slot}`", "`out @${loser.slot + 1}`", ROOM),
+    ("the number of a block that nobody took", "model.js", "`block ${o.bits.length / 10} ${", "`block ${o.bits.length / 10 + 1} ${", ROOM),
+    ("the times of an ending", "words.js", "(2050..2750 after the one before)", "(2050..2700 after the one before)", WORDS),
+    ("who is at a physical address", "words.js", "deviceAt(lane, round.begin)", "deviceAt(lane, 0)", ROOM),
+    ("a remark without its section", "panels.js", "(section ? `${text} (CEC ${section})` : text)", "text", ROOM),
+    ("notes that count as remarks", "chart.js", "row.remarks.length > 0 && svg('tspan', { class: 'warn', dx: 8 }, `⚠ ${row.remarks.length}`)",
+     "row.notes.length > 0 && svg('tspan', { class: 'warn', dx: 8 }, `⚠ ${row.notes.length}`)", ROOM),
+    ("times of the table, at the close", "panels.js", "    seconds(row.at), names(row.from || []),",
+     "    seconds(row.until ?? row.at), names(row.from || []),", ROOM),
+    ("what a deck does", "words.js", "11: 'play', 14: 'still'", "11: 'still', 14: 'play'", LOOSE),
+    ("what counts as taken", "panels.js", "if (round.verdict === 'ack' || round.verdict === 'ok')", "if (round.verdict)", ROOM),
+    ("who hears what is for all", "model.js", "return model.isCapture || isJoined;", "return true;", LOOSE),
+    ("an address in the chart that is the last one", "model.js", "text: shown || '–', was: lane.shown });\n      lane.shown",
+     "text: lane.shown || '–', was: lane.shown });\n      lane.shown", ROOM),
+    ("high and low", "wave.js", "? 'low' : 'high';", "? 'high' : 'low';", ROOM),
+    ("the window of a start bit", "wave.js", "(i === 0 ? WINDOWS.startTotal : WINDOWS.total)", "WINDOWS.total", ROOM),
+    ("the ruler of the wave", "wave.js", "pen.fillText(seconds(t), x + 3, 10);", "pen.fillText(seconds(t + step), x + 3, 10);", ROOM),
+    ("a stretch of a sweep", "panels.js", "from ${stretch.from} to ${stretch.to}`", "from ${stretch.to} to ${stretch.from}`", REPORT),
+    ("the window of a test", "panels.js", "seen from ${window.from} to ${window.to} µs.", "seen from ${window.to} to ${window.from} µs.",
+     REPORT),
+    ("the line of an event", "panels.js", "`Line ${o.scriptLine} of the script.`", "`Line ${o.scriptLine + 1} of the script.`", ROOM),
+    ("the number of an operand", "panels.js", "`operand ${i - 1}`", "`operand ${i}`", ROOM),
+    ("the free time before a round", "slots.js", "wave.line.changes[i - 1] : null", "wave.line.changes[i - 2] : null", ROOM),
+    ("how many rounds there are", "view.js", "counted(rounds.length, 'round')", "counted(rounds.length + 1, 'round')", ROOM),
+    ("where a round is on the strip", "strip.js", "const from = this.x(row.at);\n      const to", "const from = this.x(row.at + 2e5);\n      const to", ROOM),
+    ("who sends to whom, in a block", "panels.js", "`${addressInWords(byte[0])} to ${isBroadcast",
+     "`${addressInWords(byte[1])} to ${isBroadcast", ROOM),
+]
+
+
+def text_of(name):
+    with open(os.path.join(TOP, "view", name), encoding="utf-8") as file:
+        return file.read()
+
+
+def lacking():
+    """The plants whose text does not stand exactly once in its file."""
+    return [(what, text_of(name).count(old)) for what, name, old, _, _ in PLANTS if text_of(name).count(old) != 1]
+
+
+def copy(room):
+    """The page, its tools and its tests, as a checkout of its own."""
+    for name in ("view", "tests"):
+        shutil.copytree(os.path.join(TOP, name), os.path.join(room, name), symlinks=True)
+    os.mkdir(os.path.join(room, "tools"))
+    for name in ("page", "look", "example-pages"):
+        shutil.copy(os.path.join(TOP, "tools", name), os.path.join(room, "tools", name))
+    os.symlink(os.path.join(TOP, "examples"), os.path.join(room, "examples"))
+
+
+def is_found(plant, browser, program):
+    """Whether the test fails of a copy with this fault."""
+    _, name, old, new, test = plant
+    room = tempfile.mkdtemp(prefix="hdminet-fault-")
+    try:
+        copy(room)
+        with open(os.path.join(room, "view", name), "w", encoding="utf-8") as file:
+            file.write(text_of(name).replace(old, new))
+        made = os.path.join(room, "made")
+        os.mkdir(made)
+        environment = {**os.environ, "HDMINET": os.path.abspath(program), "TMPDIR": made, "PYTHONDONTWRITEBYTECODE": "1"}
+        done = subprocess.run([sys.executable, os.path.join(room, "tests/page.py"), browser, made, test], env=environment,
+                              capture_output=True, text=True, check=False)
+        # A page that does not even load shows nothing: that is no fault of the kind that is planted.
+        return done.returncode == 1 and "RuntimeError" not in done.stdout and "not ok: " in done.stdout, done.stdout
+    finally:
+        shutil.rmtree(room, ignore_errors=True)
+
+
+def main():
+    missing = lacking()
+    for what, count in missing:
+        print(f"page-faults: {what}: what is replaced stands {count} times")
+    if missing or sys.argv[1:] == ["--apply"]:
+        sys.exit(1 if missing else 0)
+    browser, program, *words = sys.argv[1:]
+    chosen = [plant for plant in PLANTS if not words or any(word in plant[0] for word in words)]
+    found = 0
+    for plant in chosen:
+        is_seen, said = is_found(plant, browser, program)
+        found += is_seen
+        first = next((line for line in said.splitlines() if line.startswith("not ok")), "")[:120]
+        print(f"{'found' if is_seen else 'NOT FOUND'}: {plant[0]}: {first}", flush=True)
+    print(f"page-faults: {found} of {len(chosen)} are found")
+    sys.exit(0 if found == len(chosen) else 1)
+
+
+main()
