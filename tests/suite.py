@@ -220,6 +220,27 @@ class Overlaps(Pin):
             self.pull(width, after)
 
 
+class Touches(Pin):
+    """Pulls for the last time where the pull before ends."""
+
+    def wake(self):
+        for after, width in ((100, 600), (700, 50), (750, 1)):
+            self.pull(width, after)
+
+
+class Leans(Pin):
+    """Pulls for longer than one pull may be, and then pulls on where it hears that the line has risen."""
+
+    def wake(self):
+        self.pull(10_000_000)
+        self.pull(10_000_000, 5_000_000)
+
+    def line(self, is_low):
+        super().line(is_low)
+        if self.now == 20_000_000:
+            self.pull(100)
+
+
 class Hasty(Pin):
     """Pulls at once where the line rises first."""
 
@@ -255,12 +276,17 @@ class Blind(Pin):
 
 PLAIN = SEAT + "%send 7000000\n"
 PIN_CASES = [
-    # What comes under a pull begins a microsecond after it.
-    (Overlaps, PLAIN % "", ["pull 5000100 600", "pull 5000701 199", "pull 5001000 100"], ["5000100 0", "5000700 1", "5000701 0", "5000900 1", "5001000 0", "5001100 1"]),
-    (Overlaps, PLAIN % "pulse 5000200 1000\n", ["pull 5000100 600", "pull 5000701 499"], ["5000100 0", "5000700 1", "5000701 0", "5001200 1"]),
-    (Overlaps, PLAIN % "pull 5000050 2000\n", ["pull 5000050 2000"], ["5000050 0", "5002050 1"]),
+    # Pulls that overlap or touch are one low.
+    (Overlaps, PLAIN % "", ["5000100 0", "5000900 1", "5001000 0", "5001100 1"], None),
+    (Overlaps, PLAIN % "pulse 5000200 1000\n", ["5000100 0", "5001200 1"], None),
+    (Overlaps, PLAIN % "pull 5000900 50\n", ["5000100 0", "5000950 1", "5001000 0", "5001100 1"], None),
+    (Overlaps, PLAIN % "pull 5000901 98\n", ["5000100 0", "5000900 1", "5000901 0", "5000999 1", "5001000 0", "5001100 1"], None),
+    (Overlaps, PLAIN % "pull 5000050 2000\n", ["5000050 0", "5002050 1"], None),
+    (Overlaps, PLAIN % "at 5000100 ask press play\nat 5000300 ask release play\n", ["5000100 0", "5000900 1", "5001000 0", "5001100 1"], None),
+    (Touches, PLAIN % "", ["5000100 0", "5000751 1"], None),
+    (Leans, PLAIN.replace("7000000", "30000000") % "", ["5000000 0", "20000000 1", "20000001 0", "20000101 1"], None),
     # An edge is told a microsecond after it. The television polls at 12,000, its start bit rises at 15,700, and it polls again.
-    (Hasty, PLAIN % "", ["pull 15701 400"], []),
+    (Hasty, PLAIN % "", ["15701 0", "16101 1"], []),
     # While it is unplugged it hears and pulls nothing.
     (Overlaps, PLAIN % ("at 4900000 unplug dut\nat 5000050 send tv 0>f standby\nat 6000000 plug dut tv {port}\n"), [], []),
     (Overlaps, PLAIN % ("at 5000050 unplug dut\nat 6000000 plug dut tv {port}\n"), [], []),
@@ -285,16 +311,18 @@ def edges_of(text):
 
 
 def pins_are_exact(pool):
-    """A device by pin pulls at the instants that it names, and is told each edge of the line once."""
+    """A device by pin pulls at the instants that it names, and is told each edge of the line once, and all in its order."""
     right = True
-    for kind, text, pulls, late in PIN_CASES:
+    for kind, text, lows, late in PIN_CASES:
         device = kind()
         run, script = run_of(device, text)
-        got = [line for line in script.split("\n") if line.startswith(("pull ", "pulse "))]
+        got = [line[len("pin "):] for line in script.split("\n") if line.startswith("pin ")]
         of_run = edges_of(script)
         is_plugged = "unplug" not in text
         heard = [edge for edge in device.edges if int(edge.split(" ")[0]) >= 5_000_000]
-        if run.fault or got != pulls or heard != late or (is_plugged and device.edges != of_run) or not set(device.edges) <= set(of_run):
+        instants = [int(line.split(" ")[2]) for line in run.talk if line.startswith("> ")]
+        is_heard = heard == (lows if late is None else late) and (not is_plugged or device.edges == of_run) and set(device.edges) <= set(of_run)
+        if run.fault or got != lows or not is_heard or instants != sorted(instants):
             print("suite: a device by pin: %s %s %s %s" % (kind.__name__, run.fault, got, heard))
             right = False
     most, runner.MOST_PULLS = runner.MOST_PULLS, 300
