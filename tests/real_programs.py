@@ -1,0 +1,259 @@
+#!/usr/bin/env python3
+"""real_programs.py [PROGRAM]: Linux's CEC programs in emulated rooms, by tools/cec-device and tools/cec-adapter.
+
+cec-ctl, cec-compliance and cec-follower of Debian's v4l-utils and cec-client of cec-utils are run as they are. Where they are not
+installed, what needs them is left out, and said so."""
+
+import concurrent.futures
+import os
+import re
+import shutil
+import subprocess
+import sys
+import tempfile
+import time
+
+TOP = os.path.dirname(os.path.dirname(os.path.realpath(__file__)))
+ROOMS = os.path.join(TOP, "tests/real-programs")
+DEVICE, ADAPTER, INSIDE = (os.path.join(TOP, "tools", name) for name in ("cec-device", "cec-adapter", "cec-room"))
+# How many tests of each of cec-compliance's runs there are.
+ADAPTER_TESTS, TWO_SEATS_TESTS = 11, 85
+# How long one command may take, in seconds, on a loaded machine.
+PATIENCE = 300
+# The tries of what goes by the wall clock.
+TRIES = 3
+
+
+class Tests:
+    """What has held, and what has not."""
+
+    def __init__(self):
+        self.held, self.failed = 0, []
+
+    def expect(self, what, holds, shown=""):
+        if holds:
+            self.held += 1
+        else:
+            self.failed.append(what)
+            print("real programs: fails: %s\n%s" % (what, shown))
+
+
+class Ran:
+    """cec-device over a room, as it has ended."""
+
+    def __init__(self, program, room, seats, command, *flags):
+        self.kept = tempfile.mkdtemp(prefix="real-programs.")
+        words = [DEVICE, os.path.join(ROOMS, room + ".net"), "--program", program, "--keep", self.kept, *flags]
+        for seat in seats:
+            words += ["--as", seat]
+        ran = subprocess.run([*words, "--", *command], capture_output=True, text=True, timeout=PATIENCE)
+        self.status, self.out, self.err = ran.returncode, ran.stdout, ran.stderr
+
+    def text(self, name):
+        path = os.path.join(self.kept, name)
+        if not os.path.exists(path):
+            return None
+        with open(path, encoding="utf-8") as file:
+            return file.read()
+
+    def is_replayed(self, program):
+        """Whether `hdminet run` writes the session's trace of its script."""
+        ran = subprocess.run([program, "run"], input=self.text("session.net"), capture_output=True, text=True)
+        return ran.returncode == 0 and ran.stdout == self.text("session.trace")
+
+    def total(self):
+        """How many tests of cec-compliance there were, and how many of them held."""
+        found = re.search(r"^Total .*: (\d+), Succeeded: (\d+), Failed: (\d+)", self.out, re.M)
+        return (int(found[1]), int(found[2])) if found else None
+
+    def failures(self):
+        """The tests of cec-compliance that fail, by the address that is tested."""
+        found, address = {}, ""
+        for line in self.out.splitlines():
+            tested = re.match(r"testing CEC local LA \d+ \(.*\) to remote LA (\d+)", line)
+            failed = re.match(r"\s+(\S.*): FAIL", line)
+            if tested:
+                address = tested[1]
+            elif failed:
+                found.setdefault(address, []).append(failed[1])
+        return found
+
+    def forget(self):
+        shutil.rmtree(self.kept)
+
+
+def compliance(program, room, seat, kind, flags):
+    """cec-compliance as one device of a room, beside cec-follower, which answers as that device."""
+    command = 'cec-ctl --%s >/dev/null; "%s" beside cec-follower >/dev/null; exec cec-compliance %s -s' % (kind, INSIDE, flags)
+    return Ran(program, room, [seat], ["bash", "-c", command])
+
+
+def kept_verdicts():
+    """The table of tests/real-programs/verdicts.txt: each room with its counts and failures, and the reason of each test that fails."""
+    rooms, reasons = {}, {}
+    with open(os.path.join(ROOMS, "verdicts.txt"), encoding="utf-8") as file:
+        for line in file.read().splitlines():
+            head = re.fullmatch(r"(\w+) as (\w+), (\w+): (\d+) of (\d+)", line)
+            if head:
+                failures = {}
+                rooms[head[1], head[2], head[3]] = (int(head[5]), int(head[4])), failures
+            elif re.match(r"\d+: ", line):
+                address, names = line.split(": ", 1)
+                failures[address] = names.split(", ")
+            elif " = " in line:
+                name, reason = line.split(" = ", 1)
+                reasons[name] = reason
+    return rooms, reasons
+
+
+def test_rooms(tests, program):
+    """What cec-compliance finds in each room is what the table has, and docs/behaviour.md says each failure on purpose."""
+    rooms, reasons = kept_verdicts()
+    with open(os.path.join(TOP, "docs/behaviour.md"), encoding="utf-8") as file:
+        behaviour = file.read()
+    for name, reason in reasons.items():
+        tests.expect("docs/behaviour.md says: %s" % reason, reason in behaviour)
+    with concurrent.futures.ThreadPoolExecutor(2) as pool:
+        ran = {key: pool.submit(compliance, program, *key, "-r") for key in rooms}
+    for key, (total, failures) in rooms.items():
+        result, what = ran[key].result(), "cec-compliance in %s as %s" % key[:2]
+        tests.expect(what, result.total() == total and result.failures() == failures, "%s %s %s" % (result.total(), result.failures(), result.err))
+        tests.expect(what + ": each failure has its reason", all(name in reasons for names in failures.values() for name in names))
+        tests.expect(what + ": the script gives the trace", result.is_replayed(program))
+        result.forget()
+
+
+def test_adapter_itself(tests, program):
+    ran = Ran(program, "play", ["dut"], ["bash", "-c", "cec-ctl --playback >/dev/null; exec cec-compliance -A -s"])
+    tests.expect("cec-compliance of the adapter itself", ran.total() == (ADAPTER_TESTS, ADAPTER_TESTS), ran.out[-2000:] + ran.err)
+    ran.forget()
+
+
+def test_two_seats(tests, program):
+    """cec-follower is the television, cec-compliance a player, and the amplifier between is emulated; twice, with one trace."""
+    command = """cec-ctl -d0 --tv >/dev/null; cec-ctl -d1 --playback >/dev/null
+        "{0}" beside cec-follower -d0 -w >/dev/null; "{0}" beside cec-follower -d1 >/dev/null; exec cec-compliance -d1 -r0 -s""".format(INSIDE)
+    first, second = (Ran(program, "two", ["tv", "dut"], ["bash", "-c", command]) for _ in range(2))
+    tests.expect("a follower as television, a player that tests it", first.total() == (TWO_SEATS_TESTS, TWO_SEATS_TESTS), first.out[-2000:] + first.err)
+    tests.expect("two runs have one trace", first.text("session.trace") == second.text("session.trace"))
+    tests.expect("two runs have one script", first.text("session.net") == second.text("session.net"))
+    tests.expect("the script of two seats gives the trace", first.is_replayed(program))
+    first.forget()
+    second.forget()
+
+
+def test_events(tests, program):
+    """Events from inside, with a label, and expectations of the script that came about."""
+    expectations = os.path.join(ROOMS, "key.expect")
+    command = 'cec-ctl --playback >/dev/null; "{0}" label film press p1 play; "{0}" show tv; "{0}" press p9 play; "{0}" wait 1000000'.format(INSIDE)
+    ran = Ran(program, "play", ["dut"], ["bash", "-c", command], "--check", expectations)
+    lines = ran.out.splitlines()
+    tests.expect("an event is taken", len(lines) > 3 and lines[0].startswith("= ") and lines[1].startswith("= state tv "), ran.out)
+    tests.expect("an event of no device is refused", len(lines) > 3 and re.fullmatch(r"! \d+ name", lines[2]), ran.out)
+    tests.expect("expectations are judged", ran.status == 0 and "ok 1 " in ran.out and "not ok" not in ran.out, ran.out + ran.err)
+    ran.forget()
+
+
+def test_bad_input(tests, program):
+    """Each fault has its message and its status, and nothing is left."""
+    rows = [
+        ("no such device", ["nobody"], ["true"], [], 2, "no device nobody"),
+        ("a status", ["dut"], ["false"], [], 1, ""),
+        ("a command that is killed", ["dut"], ["bash", "-c", "kill -9 $$"], [], 137, ""),
+        ("a command that hangs", ["dut"], ["sleep", "100"], ["--clock", "wall", "--limit", "1"], 3, "has not ended in 1 seconds"),
+        ("a program that never waits", ["dut"], ["python3", "-c", "import os; os.open('/dev/cec0', os.O_RDWR)\nwhile True: pass"], ["--stall", "1"], 3, "has not waited for 1 seconds"),
+        ("no such command", ["dut"], ["no-such-command"], [], 3, "no-such-command: "),
+        ("a program beside that ends", ["dut"], ["true"], ["--beside", "false"], 3, "false has ended, with status 1"),
+    ]
+    for what, seats, command, flags, status, message in rows:
+        ran = Ran(program, "play", seats, command, *flags)
+        tests.expect(what, ran.status == status and message in ran.err and (message or not ran.err), "%d %s" % (ran.status, ran.err))
+        ran.forget()
+    fight = "import fcntl, os, struct\nfirst, second = (os.open('/dev/cec0', os.O_RDWR) for _ in range(2))\n" \
+            "fcntl.ioctl(first, 0x40046109, struct.pack('I', 2))\ntry: fcntl.ioctl(second, 0x40046109, struct.pack('I', 2))\nexcept OSError as error: print(error.errno)"
+    ran = Ran(program, "play", ["dut"], ["python3", "-c", fight])
+    tests.expect("two programs that both want to send alone", ran.out == "16\n", ran.out + ran.err)
+    ran.forget()
+    with tempfile.NamedTemporaryFile("w", suffix=".net") as room:
+        room.write("device tv tv 4\ndevice dut playr 0\nscript\n")
+        room.flush()
+        ran = subprocess.run([DEVICE, room.name, "--program", program, "--as", "tv", "--", "true"], capture_output=True, text=True, timeout=PATIENCE)
+        tests.expect("a room that is refused", ran.returncode == 2 and "topology line 2: word" in ran.stderr, ran.stderr)
+    left = [name for name in os.listdir(tempfile.gettempdir()) if name.startswith("hdminet-cec.")]
+    tests.expect("no folder is left", not left, str(left))
+
+
+def test_libcec(tests, program):
+    """cec-client at the pseudo-terminal of an adapter finds the room, and its own place by the EDID; a key passes; and so again after a replug."""
+    for _ in range(TRIES):
+        missing = try_libcec(program)
+        if not missing:
+            break
+    tests.expect("cec-client finds the room, and again after a replug", not missing, "missing: %s" % missing)
+
+
+def cec_client(terminal, environment, keys):
+    """What cec-client says of a scan, once it has opened the adapter and these keys have come."""
+    client = subprocess.Popen(["cec-client", "-t", "p", "-d", "31", terminal], stdin=subprocess.PIPE, stdout=subprocess.PIPE, stderr=subprocess.STDOUT,
+                              text=True, env=environment)
+    try:
+        time.sleep(5)
+        keys()
+        client.stdin.write("scan\n")
+        client.stdin.flush()
+        time.sleep(5)
+        return client.communicate("q\n", timeout=60)[0]
+    except (OSError, subprocess.TimeoutExpired) as error:
+        return str(error)
+    finally:
+        client.kill()
+        client.wait()
+
+
+def try_libcec(program):
+    """What is not seen of what is wanted."""
+    with tempfile.TemporaryDirectory() as folder:
+        drm, shim = os.path.join(folder, "drm"), os.path.join(folder, "shim.so")
+        subprocess.run(["cc", "-O2", "-Wall", "-Wextra", "-Wno-unused-parameter", "-Werror", "-shared", "-fPIC", "-o", shim, os.path.join(TOP, "tools/cec/shim.c"), "-ldl"], check=True)
+        adapter = subprocess.Popen([ADAPTER, os.path.join(ROOMS, "edid.net"), "--as", "dut", "--drm", drm, "--program", program], stdin=subprocess.PIPE,
+                                   stdout=subprocess.PIPE, text=True)
+        environment = dict(os.environ, LD_PRELOAD=shim, HDMINET_CEC_DRM=drm)
+        terminal = adapter.stdout.readline().strip()
+
+        def events(*lines):
+            for line in lines:
+                adapter.stdin.write(line + "\n")
+                adapter.stdin.flush()
+                time.sleep(0.5)
+        missing = []
+        room = ("osd string:    amp", "osd string:    rec", "osd string:    p1", "address:       1.1.0.0")
+        for place in ("3.0.0.0", "1.2.0.0"):
+            said = cec_client(terminal, environment, lambda: events("press tv remote 8 play", "release tv remote 8 play"))
+            missing += ["%s at %s" % (words, place) for words in (*room, "address:       " + place, ">> 08:44:44") if words not in said]
+            events("unplug dut", "plug dut amp 2")
+        adapter.stdin.close()
+        adapter.wait(PATIENCE)
+        return missing
+
+
+def main():
+    program = os.path.realpath(sys.argv[1] if len(sys.argv) > 1 else os.path.join(TOP, "release/hdminet"))
+    tests = Tests()
+    if not shutil.which("cec-compliance") or not shutil.which("cc"):
+        print("real programs: cec-compliance of v4l-utils is not installed, so nothing is run")
+        return 0
+    test_bad_input(tests, program)
+    test_events(tests, program)
+    test_adapter_itself(tests, program)
+    test_two_seats(tests, program)
+    test_rooms(tests, program)
+    if shutil.which("cec-client"):
+        test_libcec(tests, program)
+    else:
+        print("real programs: cec-client of cec-utils is not installed, so libcec is not run")
+    print("real programs: %d hold, %d fail" % (tests.held, len(tests.failed)))
+    return 1 if tests.failed else 0
+
+
+if __name__ == "__main__":
+    sys.exit(main())
