@@ -1,5 +1,5 @@
 -- Who drives the line of a round, seat by seat: each pulls as the rule of a round says of it alone (CEC 5.2, 6.1, 7.4).
-use Rattle.std.specs.Prelude.{◌≡◌, ℕ, zero, suc, ◌+◌, Bool, true, ◌||◌, if◌then◌else◌, max, List, [], ◌∷◌, ◌++◌, map}
+use Rattle.std.specs.Prelude.{◌≡◌, ℕ, zero, suc, Bool, true, ◌||◌, if◌then◌else◌, max, List, [], ◌∷◌, ◌++◌, map}
 use Rattle.std.specs.List.{list_any}
 use Rattle.line_wave.specs.declared.Stretch.{Stretch}
 use Rattle.line_wave.specs.Line.{Line, IsWave, line_of, was_low}
