@@ -34,11 +34,13 @@ push|push|`push`: did you mean `* user-control-pressed`?
 @p1>f active-source 1.0.0.0 ack|ack|`ack`: did you mean `ok`?
 @p1>@tv image-view-on refused|refused|`refused`: did you mean `nack`?
 4>0 image-view-on NAK|NAK|`NAK`: did you mean `nack`?
+4>f active-source 1000|1000|`active-source 1000`: did you mean `active-source 1.0.0.0`?
 4>f active-source 1.0|1.0|PA is a physical address, as 1.0.0.0";
 
 /// Other lines of a test, below one with the label `film`.
 const TEST: &str = "\
 expect exactly-one within 60000 of film 4>0|exactly-one|`exactly-one`: did you mean `once`?
+expect exactly once within 60000 of film 4>0|exactly|`exactly once`: did you mean `once`?
 expect exactly-one 4>0|exactly-one|`exactly-one`: did you mean `once`?
 film: at 2000000 press p1 play|film:|a line here reads `at T press NAME KEY`, `at T release NAME KEY`, `at T plug CHILD PARENT PORT`, `at T unplug CHILD`, `at T send NAME FRAME`, `at T hold NAME ADDRS`, `at T drop NAME`, `pulse T WIDTH`, `pull T WIDTH`, `pin T LEVEL`, `end T`, `label NAME LINE`, `expect within D of NAME PATTERN`, `expect from T to U PATTERN`, `expect state T NAME WORD`, `expect refused NAME WORD`, `expect refused WORD`
 key: at 2000000 press p1 play|key:|`key:`: did you mean `label key`?
@@ -102,6 +104,7 @@ expect within 60000 of film 4>0 04 ack|this is a frame in hex, as `hdminet dis` 
 film: at 2000000 press p1 play|`film:`: did you mean `label film`?
 at 2000000 hold dut f/4|`f/4`: did you mean `f+4`?
 at 8840000-9840000 press p1 play|`8840000-9840000`: did you mean `8840000..9840000`?
+expect state 99999990-99999999 tv on|`99999990-99999999`: did you mean `99999990..99999999`?
 pres 5|`pres`: did you mean `press`?";
 
 /// Lines of a test of which nothing is said.
