@@ -1,6 +1,6 @@
 //! Lines of topologies, scripts, sessions and steps, read again.
 use crate::changed::{Changed, with_line, word_of};
-use expect_text::{plain_part, plain_script, unlabelled};
+use expect_text::{first_fault, plain_part, plain_script, unlabelled};
 use explain_lists::{word_at, word_count};
 use explain_marks::{SESSION_ALONE, before_script, is_line_end, length_of_lines, most_fitting};
 use room_script::{
@@ -89,7 +89,7 @@ pub fn of_event(alloc: Global, changed: Changed<'_>) -> Result<Option<usize>, Al
     }
 }
 
-/// Whether the script of a test is read that has a line in the place of another one, labels and expectations aside.
+/// Whether the script of a test is read, with its labels and expectations, that has a line in the place of another one.
 pub fn is_whole_read(alloc: Global, changed: Changed<'_>) -> Result<bool, AllocError> {
     let Some(topology) = topology_in(alloc, changed.topology())? else {
         return Ok(false);
@@ -98,6 +98,9 @@ pub fn is_whole_read(alloc: Global, changed: Changed<'_>) -> Result<bool, AllocE
     let below = length_of_lines(input, changed.place.number);
     let mut script = changed.part(alloc)?;
     script.extend_from_slice(input.get(below..).unwrap_or(&[]))?;
+    if first_fault(alloc, changed.topology(), &script)?.is_some() {
+        return Ok(false);
+    }
     let plain = plain_script(alloc, &script)?;
     match parse_script(alloc, &topology, &plain) {
         Ok(_) => Ok(true),

@@ -218,10 +218,23 @@ fn add_wanted(draft: &mut Draft, spot: Spot<'_>) {
     }
 }
 
+// `once`, where a word stands before it that says the same. Returns whether it does.
+fn add_once(draft: &mut Draft, spot: Spot<'_>, word: &str) -> bool {
+    let words = match (word, spot.after(1).text()) {
+        ("exactly", "once") => "exactly once",
+        ("exactly", "one") => "exactly one",
+        ("just", "once") => "just once",
+        ("only", "once") => "only once",
+        _ => return false,
+    };
+    add_suggestion(draft, spot, "once", words)
+}
+
 // What a word that may not stand there may have been meant for, or the word that is missing before it.
 fn of_word(draft: &mut Draft, spot: Spot<'_>, word: &str) {
     let is_said = spot.word == 0 && add_label(draft, spot, word)
         || add_window(draft, spot)
+        || add_once(draft, spot, word)
         || add_nearest_of(draft, spot, forms_of(spot.at.what), word)
         || add_other(draft, spot, OTHER_EXPECTED, word);
     if !is_said {

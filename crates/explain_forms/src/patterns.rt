@@ -7,7 +7,7 @@ use explain_marks::Input;
 use explain_near::{
     add_enclosed, add_header_meant, add_nearest, add_nearest_opcode, add_nearest_operand,
     add_opcode_alone, add_other_opcode, add_parted, add_parts, add_pattern_operands_meant,
-    add_suggestion, add_text, add_unparted,
+    add_pattern_words_meant, add_suggestion, add_text, add_unparted,
 };
 use message_table::code_named;
 
@@ -125,10 +125,12 @@ fn add_named_opcode(draft: &mut Draft, spot: Spot<'_>, word: &str) -> bool {
 // What another word may have been meant for, after a pattern's first word, the one of this number. Returns whether there is
 // something.
 fn add_later(draft: &mut Draft, spot: Spot<'_>, first: usize, word: &str) -> bool {
+    let operands = spot.moved_to(first.saturating_add(2));
     add_sender(draft, spot, word)
+        || add_pattern_words_meant(draft, operands)
         || add_verdict(draft, spot, word)
         || spot.word == first.saturating_add(1) && add_named_opcode(draft, spot, word)
-        || add_pattern_operands_meant(draft, spot.moved_to(first.saturating_add(2)))
+        || add_pattern_operands_meant(draft, operands)
         || add_nearest(draft, spot, ROUND_WORDS, word)
         || add_named_opcode(draft, spot, word)
         || add_nearest_operand(draft, spot, word)

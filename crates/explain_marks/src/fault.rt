@@ -21,7 +21,7 @@ pub enum Input {
     CaptureTest,
     /// Lines of their own: frames or edges.
     Lines,
-    /// Lines that are answered as they come. None of them is kept.
+    /// Lines that are answered as they come. Of a session the topology is kept, and nothing else.
     Session,
     /// The bytes of an EDID.
     EdidBytes,

@@ -18,5 +18,5 @@ pub use near::{
 pub use numbers::add_number;
 pub use operands::{
     add_code, add_count_meant, add_nearest_operand, add_operands_meant, add_pattern_operands_meant,
-    add_quotes, add_set_meant,
+    add_pattern_words_meant, add_quotes, add_set_meant,
 };

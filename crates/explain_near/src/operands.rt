@@ -277,7 +277,8 @@ fn add_words_of_hex(draft: &mut Draft, spot: Spot<'_>) -> bool {
     let Some(code) = code_named(name.text().as_bytes()) else {
         return false;
     };
-    let digits = spot.text().strip_prefix(":").unwrap_or("");
+    let word = spot.text();
+    let digits = word.strip_prefix(":").unwrap_or(word);
     if !is_hex(digits) {
         return false;
     }
@@ -343,7 +344,18 @@ pub fn add_operands_meant(draft: &mut Draft, spot: Spot<'_>) {
         || add_text_of(draft, spot, code);
 }
 
-/// What the operands of a pattern's frame, from this word on, may have been meant for. Returns whether something is suggested.
+/// What a word of an operand may have been meant for, of those of a pattern's frame from this word on. Returns whether something is
+/// suggested.
+pub fn add_pattern_words_meant(draft: &mut Draft, spot: Spot<'_>) -> bool {
+    match operands_at(spot) {
+        Some(operands) => {
+            add_parts_meant(draft, spot, operands) || add_words_meant(draft, spot, operands)
+        }
+        None => false,
+    }
+}
+
+/// What the other operands of a pattern's frame, from this word on, may have been meant for. Returns whether something is suggested.
 pub fn add_pattern_operands_meant(draft: &mut Draft, spot: Spot<'_>) -> bool {
     let Some(operands) = operands_at(spot) else {
         return false;
@@ -353,6 +365,4 @@ pub fn add_pattern_operands_meant(draft: &mut Draft, spot: Spot<'_>) -> bool {
         || add_words_of_hex(draft, spot)
         || add_mark_meant(draft, spot, operands)
         || takes_text && add_quotes(draft, spot, spot.text())
-        || add_parts_meant(draft, spot, operands)
-        || add_words_meant(draft, spot, operands)
 }

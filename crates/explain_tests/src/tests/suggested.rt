@@ -34,11 +34,13 @@ push|push|`push`: did you mean `* user-control-pressed`?
 @p1>f active-source 1.0.0.0 ack|ack|`ack`: did you mean `ok`?
 @p1>@tv image-view-on refused|refused|`refused`: did you mean `nack`?
 4>0 image-view-on NAK|NAK|`NAK`: did you mean `nack`?
+4>f active-source 1000|1000|`active-source 1000`: did you mean `active-source 1.0.0.0`?
 4>f active-source 1.0|1.0|PA is a physical address, as 1.0.0.0";
 
 /// Other lines of a test, below one with the label `film`.
 const TEST: &str = "\
 expect exactly-one within 60000 of film 4>0|exactly-one|`exactly-one`: did you mean `once`?
+expect exactly once within 60000 of film 4>0|exactly|`exactly once`: did you mean `once`?
 expect exactly-one 4>0|exactly-one|`exactly-one`: did you mean `once`?
 film: at 2000000 press p1 play|film:|a line here reads `at T press NAME KEY`, `at T release NAME KEY`, `at T plug CHILD PARENT PORT`, `at T unplug CHILD`, `at T send NAME FRAME`, `at T hold NAME ADDRS`, `at T drop NAME`, `pulse T WIDTH`, `pull T WIDTH`, `pin T LEVEL`, `end T`, `label NAME LINE`, `expect within D of NAME PATTERN`, `expect from T to U PATTERN`, `expect state T NAME WORD`, `expect refused NAME WORD`, `expect refused WORD`
 key: at 2000000 press p1 play|key:|`key:`: did you mean `label key`?
@@ -50,7 +52,7 @@ expect within 5-9 of film 4>0|5-9|`5-9`: did you mean `5..9`?
 expect from 4840000-4841000 4>0|4>0|`4840000-4841000`: did you mean `4840000 to 4841000`?
 pulse 5000000 5-9|5-9|a range stands in the place of a time alone
 at 2000000 push p1 play|push|`push`: did you mean `press`?
-at 2000000 hold 4 dut|4 dut|`4 dut`: did you mean `dut 4`?";
+at 2000000 hold 4 dut|dut|`4 dut`: did you mean `dut 4`?";
 
 /// Lines of a script.
 const SCRIPT: &str = "\
@@ -102,6 +104,7 @@ expect within 60000 of film 4>0 04 ack|this is a frame in hex, as `hdminet dis` 
 film: at 2000000 press p1 play|`film:`: did you mean `label film`?
 at 2000000 hold dut f/4|`f/4`: did you mean `f+4`?
 at 8840000-9840000 press p1 play|`8840000-9840000`: did you mean `8840000..9840000`?
+expect state 99999990-99999999 tv on|`99999990-99999999`: did you mean `99999990..99999999`?
 pres 5|`pres`: did you mean `press`?";
 
 /// Lines of a test of which nothing is said.
@@ -128,7 +131,7 @@ asm|4>f active-source 1.0.0.0
 asm|4>0 set-osd-name \"Foo\"
 lay|5 bit 3 600 2400 4>0 image-view-on
 lay|5 start 3700 4500 4>0
-mon|15700 1";
+mon|30000 end";
 
 fn input_of(rt: &(impl Abort + AllocGlobal), parts: &[&str]) -> String {
     let mut input = String::new(rt.alloc());
@@ -208,7 +211,8 @@ fn nothing_is_said_of_what_is_read(rt: HostRuntime) {
     for line in LEGAL.lines() {
         let input = input_of(&rt, &[ROOM, LABELLED, line, "\nend 9000000\n"]);
         let answer = reported_of(&rt, "check --explain", input.as_bytes());
-        expect(&rt, answer.err.is_empty(), "check", line);
+        let err = str::from_utf8(&answer.err).unwrap_or("^");
+        expect(&rt, !err.contains("^"), "check", line);
     }
     for row in LEGAL_LINES.lines() {
         let (command, line) = row.split_once('|').expect(&rt, "a row");
@@ -216,7 +220,8 @@ fn nothing_is_said_of_what_is_read(rt: HostRuntime) {
         let input = input_of(&rt, &[line, "\n"]);
         let answer = reported_of(&rt, command.as_str(), input.as_bytes());
         let err = str::from_utf8(&answer.err).unwrap_or("");
-        expect(&rt, !err.contains("did you mean"), command.as_str(), line);
+        let is_read = !err.contains("^") && !err.contains("did you mean");
+        expect(&rt, is_read, command.as_str(), line);
     }
 }
 

@@ -93,7 +93,8 @@ fn a_session_into_a_writer_that_fails(rt: HostRuntime) {
     is_cut(&rt, "live", SESSION.as_bytes());
 }
 
-/// With `--explain` a session's fault is followed by what would be right, and no line is shown, since none is kept.
+/// With `--explain` the end of a session's input is followed by what would be right, and no line is shown, since the script's are not
+/// kept.
 #[test]
 fn a_session_is_explained(rt: HostRuntime) {
     let reported = reported_of(
