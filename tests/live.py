@@ -245,7 +245,7 @@ def is_held(start):
         if answer[0] == '=':
             horizon = int(answer.split()[1])
             level = 1 - level if line[0] == 'p' else level
-    right = s.ask('pin %d %d' % (horizon - 1, 1 - level))[0] == '!' and s.ask('end %d' % (horizon - 1)).endswith(' past\n')
+    right = all(s.ask('pin %d %d' % (horizon - 1, each))[0] == '!' for each in (0, 1)) and s.ask('end %d' % (horizon - 1)).endswith(' past\n')
     right = right and s.ask('end %d' % (horizon + 1000))[0] == '=' and s.ended() == (0, '', '')
     text = SEAT + ''.join(line + '\n' for line in s.script)
     ran = subprocess.run([PROGRAM, 'run', '--edges'], input=text.encode(), stdout=subprocess.PIPE).stdout.decode()

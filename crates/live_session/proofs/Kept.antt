@@ -15,7 +15,7 @@ use Rattle.live_session.specs.declared.command.SessionCommand.{SessionCommand}
 use Rattle.live_session.specs.declared.command.SessionCommand.TheVariants as commands
 use Rattle.live_session.specs.declared.live.Step.{Step}
 use Rattle.live_session.specs.declared.live.Step.TheVariants.{Refuse, Idle, Show, Go, Edge, Finish}
-use Rattle.live_session.specs.Command.{command_of}
+use Rattle.live_session.specs.Command.{command_of, pin_time}
 use Rattle.live_session.specs.Session.{Session, first_session, refuse, with_line_counted, standing, with_standing, standing_with, step_noted, step_by, is_late, after_to, after_wait, IsEdgeStep, IsEdgeStepBy, IsStepBy, IsDue}
 use Rattle.live_session.specs.Whole.{kept_line, IsLine, AreLines, SessionsReportTracesOf}
 use Rattle.live_session.proofs.Extends.{line_extends}
@@ -81,16 +81,16 @@ empty_reads s t same = record { tree = same.tree; lines = same.lines; read = ap 
 refused_reads : (s t : Session) → t ≡ with_standing s (standing s) → Reads s [] t
 refused_reads s t e = empty_reads s t (subst (λ (t : Session). Stays s t) (sym e) (record { tree = refl; lines = refl; notes = refl }))
 
-taken_reads : (s : Session) (line : List ℕ) (new : Notes) (late : Bool) (t : Session) → IsLineRead s.tree s.notes (length s.place.net.pulses) s.lines line (Ok new) → is_late (standing s) new ≡ late
-    → t ≡ with_standing s (standing_with (standing s) (Ok new)) → Reads s (kept_line commands.Script (step_noted (standing s) (Ok new)) line) t
+taken_reads : (s : Session) (line : List ℕ) (new : Notes) (late : Bool) (t : Session) → IsLineRead s.tree s.notes (length s.place.net.pulses) s.lines line (Ok new) → is_late (standing s) (pin_time line) new ≡ late
+    → t ≡ with_standing s (standing_with (standing s) (pin_time line) (Ok new)) → Reads s (kept_line commands.Script (step_noted (standing s) (pin_time line) (Ok new)) line) t
 taken_reads s line new true t read e stands =
-    let step : step_noted (standing s) (Ok new) ≡ refuse 1 Past = ap (λ b. if b then refuse 1 Past else step_by new.end) e in
-    let same : standing_with (standing s) (Ok new) ≡ standing s = ap (λ b. if b then standing s else taken (standing s) new) e in
+    let step : step_noted (standing s) (pin_time line) (Ok new) ≡ refuse 1 Past = ap (λ b. if b then refuse 1 Past else step_by new.end) e in
+    let same : standing_with (standing s) (pin_time line) (Ok new) ≡ standing s = ap (λ b. if b then standing s else taken (standing s) new) e in
     subst (λ (step : Step). Reads s (kept_line commands.Script step line) t) (sym step)
     (refused_reads s t (stands ∙ ap (with_standing s) same))
 taken_reads s line new false t read e stands =
-    let step : step_noted (standing s) (Ok new) ≡ step_by new.end = ap (λ b. if b then refuse 1 Past else step_by new.end) e in
-    let same : standing_with (standing s) (Ok new) ≡ taken (standing s) new = ap (λ b. if b then standing s else taken (standing s) new) e in
+    let step : step_noted (standing s) (pin_time line) (Ok new) ≡ step_by new.end = ap (λ b. if b then refuse 1 Past else step_by new.end) e in
+    let same : standing_with (standing s) (pin_time line) (Ok new) ≡ taken (standing s) new = ap (λ b. if b then standing s else taken (standing s) new) e in
     subst (λ (step : Step). Reads s (kept_line commands.Script step line) t) (sym step) (subst (λ (kept : List ℕ). Reads s kept t) (sym (keeps new.end))
     (subst (λ (t : Session). Reads s line t) (sym (stands ∙ ap (with_standing s) same)) (record { tree = refl; lines = refl; read = read })))
   where
@@ -98,10 +98,10 @@ taken_reads s line new false t read e stands =
     keeps None = refl
     keeps (Some end) = refl
 
-noted_reads : (s : Session) (line : List ℕ) (read : Result Notes (AtWord ScriptCause)) (t : Session) → IsLineRead s.tree s.notes (length s.place.net.pulses) s.lines line read → t ≡ with_standing s (standing_with (standing s) read)
-    → Reads s (kept_line commands.Script (step_noted (standing s) read) line) t
+noted_reads : (s : Session) (line : List ℕ) (read : Result Notes (AtWord ScriptCause)) (t : Session) → IsLineRead s.tree s.notes (length s.place.net.pulses) s.lines line read → t ≡ with_standing s (standing_with (standing s) (pin_time line) read)
+    → Reads s (kept_line commands.Script (step_noted (standing s) (pin_time line) read) line) t
 noted_reads s line (Err fault) t is stands = refused_reads s t stands
-noted_reads s line (Ok new) t is stands = taken_reads s line new (is_late (standing s) new) t is refl stands
+noted_reads s line (Ok new) t is stands = taken_reads s line new (is_late (standing s) (pin_time line) new) t is refl stands
 
 step_reads : (s : Session) (command : SessionCommand) (line : List ℕ) (step : Step) (t : Session) → IsStepBy s command line step t → Reads s (kept_line command step line) t
 step_reads s commands.Script line step t (read, is, asks, stands) = subst (λ (step : Step). Reads s (kept_line commands.Script step line) t) (sym asks) (noted_reads s line read t is stands)

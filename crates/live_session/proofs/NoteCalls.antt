@@ -10,6 +10,7 @@ use Rattle.room_script.specs.declared.script.ScriptLineError.{ScriptLineError}
 use Rattle.room_script.specs.declared.script.ScriptLineError.TheVariants.{Fault, Memory}
 use Rattle.live_session.specs.declared.answer.RefusalCause.TheVariants.{Past}
 use Rattle.live_session.specs.declared.live.Step.{Step}
+use Rattle.live_session.specs.Command.{pin_time}
 use Rattle.live_session.specs.Note.{IsSettled, refused_by}
 use Rattle.live_session.specs.Session.{Session, Standing, IsReady, NamesShown, is_late, refuse, standing, step_by, step_noted, with_standing}
 use Rattle.live_session.proofs.Noting.{IsKept, kept, kept_same, drop_all}
@@ -18,7 +19,7 @@ use Rattle.live_session.proofs.Noting.{IsKept, kept, kept_same, drop_all}
 pub refused_note : (tree : List Node) (waiting number : ℕ) (line : List ℕ) (old new : Notes) (horizon : ℕ) (net : NetState) (error : ScriptLineError) → Gives new (Err error) (IsLineRead tree old waiting number line) → new ≡ old
     → MatchOption (refused_by error) ((new ≡ old) × (horizon ≡ horizon) × (net ≡ net))
     (λ step. (read : Result Notes (AtWord ScriptCause)) × IsLineRead tree old waiting number line read
-    × IsSettled (record { notes = old; horizon = horizon; net = net }) read step (record { notes = new; horizon = horizon; net = net }))
+    × IsSettled (record { notes = old; horizon = horizon; net = net }) (pin_time line) read step (record { notes = new; horizon = horizon; net = net }))
 refused_note tree waiting number line old new horizon net Memory gives same = (same, refl, refl)
 refused_note tree waiting number line old new horizon net (Fault fault) gives same =
     (Err fault, gives, record { asks = refl; stands = ap (λ (n : Notes). let t : Standing = record { notes = n; horizon = horizon; net = net } in t) same })
@@ -27,7 +28,7 @@ refused_note tree waiting number line old new horizon net (Fault fault) gives sa
 abbrev pub NotedBy : Session → Standing → List ℕ → Option Step → Type 0
 NotedBy s t line result =
     MatchOption result ((t.notes ≡ s.notes) × (t.horizon ≡ s.horizon) × (t.net ≡ s.place.net))
-    (λ step. (read : Result Notes (AtWord ScriptCause)) × IsLineRead s.tree s.notes (length s.place.net.pulses) s.lines line read × IsSettled (standing s) read step t)
+    (λ step. (read : Result Notes (AtWord ScriptCause)) × IsLineRead s.tree s.notes (length s.place.net.pulses) s.lines line read × IsSettled (standing s) (pin_time line) read step t)
 
 same_standing : (s : Session) (t : Standing) → (t.notes ≡ s.notes) × (t.horizon ≡ s.horizon) × (t.net ≡ s.place.net) → t ≡ standing s
 same_standing s t e = λ i. record { notes = e.0 i; horizon = e.1 i; net = e.2 i }
@@ -45,7 +46,7 @@ stays s =
 abbrev pub Noted : Session → Session → List ℕ → Option Step → Type 0
 Noted s v line result =
     MatchOption result (v ≡ s)
-    (λ step. (read : Result Notes (AtWord ScriptCause)) × IsLineRead s.tree s.notes (length s.place.net.pulses) s.lines line read × IsSettled (standing s) read step (standing v) × (v ≡ with_standing s (standing v)))
+    (λ step. (read : Result Notes (AtWord ScriptCause)) × IsLineRead s.tree s.notes (length s.place.net.pulses) s.lines line read × IsSettled (standing s) (pin_time line) read step (standing v) × (v ≡ with_standing s (standing v)))
 
 noted_with : (s : Session) (t : Standing) (line : List ℕ) (result : Option Step) → NotedBy s t line result → Noted s (with_standing s t) line result
 noted_with s t line None e = ap (with_standing s) (same_standing s t e) ∙ stays s
@@ -56,9 +57,9 @@ noted_is s now v t line result same is e =
     subst (λ (s : Session). Noted s v line result) same (subst (λ (v : Session). Noted s v line result) (sym is) (noted_with s t line result e))
 
 -- none of its steps shows a device
-shows_none : (count : ℕ) (s : Standing) (read : Result Notes (AtWord ScriptCause)) → NamesShown count (step_noted s read)
-shows_none count s (Err fault) = tt
-shows_none count s (Ok new) = by_late (is_late s new)
+shows_none : (count : ℕ) (s : Standing) (given : Option ℕ) (read : Result Notes (AtWord ScriptCause)) → NamesShown count (step_noted s given read)
+shows_none count s given (Err fault) = tt
+shows_none count s given (Ok new) = by_late (is_late s given new)
   where
     by_end : (end : Option ℕ) → NamesShown count (step_by end)
     by_end None = tt
@@ -70,4 +71,4 @@ shows_none count s (Ok new) = by_late (is_late s new)
 
 pub note_shows : (count : ℕ) (s v : Session) (line : List ℕ) (result : Option Step) → Noted s v line result → IfSome result (λ step. NamesShown count step)
 note_shows count s v line None e = tt
-note_shows count s v line (Some step) e = subst (λ (step : Step). NamesShown count step) (sym e.2.asks) (shows_none count (standing s) e.0)
+note_shows count s v line (Some step) e = subst (λ (step : Step). NamesShown count step) (sym e.2.asks) (shows_none count (standing s) (pin_time line) e.0)

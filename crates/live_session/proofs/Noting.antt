@@ -13,6 +13,7 @@ use Rattle.room_script.specs.declared.script.ScriptCause.{ScriptCause}
 use Rattle.room_run.specs.Certain.{with_pulses}
 use Rattle.live_session.specs.declared.answer.RefusalCause.TheVariants.{Past}
 use Rattle.live_session.specs.declared.live.Step.TheVariants.{Go, Finish}
+use Rattle.live_session.specs.Command.{pin_time}
 use Rattle.live_session.specs.Note.{IsSettled}
 use Rattle.live_session.specs.Session.{Session, Standing, IsReady, refuse, standing, with_standing, standing_with, step_by, is_late, is_past, refuses_pulse, horizon_by, new_events, new_pulses}
 use Rattle.live_session.proofs.Extends.{line_extends, front_all}
@@ -33,9 +34,9 @@ back_is old new e none = λ i. record {
 abbrev pub taken : Standing → Notes → Standing
 taken s new = record { notes = new; horizon = horizon_by s.horizon new.end; net = with_pulses (new_pulses s.notes new) s.net }
 
-settled_late : (s : Standing) (new : Notes) → Extends s.notes new → s.notes.end ≡ None → is_late s new ≡ true
-    → IsSettled s (Ok new) (refuse 1 Past) (record { notes = back s.notes new; horizon = s.horizon; net = s.net })
-settled_late s new e none late = record {
+settled_late : (s : Standing) (given : Option ℕ) (new : Notes) → Extends s.notes new → s.notes.end ≡ None → is_late s given new ≡ true
+    → IsSettled s given (Ok new) (refuse 1 Past) (record { notes = back s.notes new; horizon = s.horizon; net = s.net })
+settled_late s given new e none late = record {
   asks = sym (ap (λ b. if b then refuse 1 Past else step_by new.end) late);
   stands = ap (λ (n : Notes). let t : Standing = record { notes = n; horizon = s.horizon; net = s.net } in t) (back_is s.notes new e none) ∙ sym (ap (λ b. if b then s else taken s new) late);
 }
@@ -52,35 +53,35 @@ or_none : (a b : Bool) → a ≡ false → b ≡ false → (a || b) ≡ false
 or_none true b e f = e
 or_none false b e f = f
 
-pub settled_past : (old new : Notes) (horizon : ℕ) (net : NetState) → Extends old new → old.end ≡ None → is_past horizon old new ≡ true
-    → IsSettled (record { notes = old; horizon = horizon; net = net }) (Ok new) (refuse 1 Past) (record { notes = back old new; horizon = horizon; net = net })
-settled_past old new horizon net e none past =
-    settled_late (record { notes = old; horizon = horizon; net = net }) new e none (or_true (is_past horizon old new) (refuses_pulse (new_pulses old new) net) past)
+pub settled_past : (old new : Notes) (given : Option ℕ) (horizon : ℕ) (net : NetState) → Extends old new → old.end ≡ None → is_past horizon given old new ≡ true
+    → IsSettled (record { notes = old; horizon = horizon; net = net }) given (Ok new) (refuse 1 Past) (record { notes = back old new; horizon = horizon; net = net })
+settled_past old new given horizon net e none past =
+    settled_late (record { notes = old; horizon = horizon; net = net }) given new e none (or_true (is_past horizon given old new) (refuses_pulse (new_pulses old new) net) past)
 
-pub settled_refused : (old new : Notes) (horizon : ℕ) (net : NetState) → Extends old new → old.end ≡ None → is_past horizon old new ≡ false → refuses_pulse (new_pulses old new) net ≡ true
-    → IsSettled (record { notes = old; horizon = horizon; net = net }) (Ok new) (refuse 1 Past) (record { notes = back old new; horizon = horizon; net = net })
-settled_refused old new horizon net e none past refused =
-    settled_late (record { notes = old; horizon = horizon; net = net }) new e none (or_else (is_past horizon old new) (refuses_pulse (new_pulses old new) net) past refused)
+pub settled_refused : (old new : Notes) (given : Option ℕ) (horizon : ℕ) (net : NetState) → Extends old new → old.end ≡ None → is_past horizon given old new ≡ false
+    → refuses_pulse (new_pulses old new) net ≡ true → IsSettled (record { notes = old; horizon = horizon; net = net }) given (Ok new) (refuse 1 Past) (record { notes = back old new; horizon = horizon; net = net })
+settled_refused old new given horizon net e none past refused =
+    settled_late (record { notes = old; horizon = horizon; net = net }) given new e none (or_else (is_past horizon given old new) (refuses_pulse (new_pulses old new) net) past refused)
 
-settled_taken : (s : Standing) (new : Notes) → is_late s new ≡ false → IsSettled s (Ok new) (step_by new.end) (taken s new)
-settled_taken s new late = record {
+settled_taken : (s : Standing) (given : Option ℕ) (new : Notes) → is_late s given new ≡ false → IsSettled s given (Ok new) (step_by new.end) (taken s new)
+settled_taken s given new late = record {
   asks = sym (ap (λ b. if b then refuse 1 Past else step_by new.end) late);
   stands = sym (ap (λ b. if b then s else taken s new) late);
 }
 
-pub settled_go : (old new : Notes) (horizon : ℕ) (net : NetState) → is_past horizon old new ≡ false → refuses_pulse (new_pulses old new) net ≡ false → new.end ≡ None
-    → IsSettled (record { notes = old; horizon = horizon; net = net }) (Ok new) Go (record { notes = new; horizon = horizon; net = with_pulses (new_pulses old new) net })
-settled_go old new horizon net past refused end =
+pub settled_go : (old new : Notes) (given : Option ℕ) (horizon : ℕ) (net : NetState) → is_past horizon given old new ≡ false → refuses_pulse (new_pulses old new) net ≡ false → new.end ≡ None
+    → IsSettled (record { notes = old; horizon = horizon; net = net }) given (Ok new) Go (record { notes = new; horizon = horizon; net = with_pulses (new_pulses old new) net })
+settled_go old new given horizon net past refused end =
     let s : Standing = record { notes = old; horizon = horizon; net = net } in
-    subst (λ (end : Option ℕ). IsSettled s (Ok new) (step_by end) (record { notes = new; horizon = horizon_by horizon end; net = with_pulses (new_pulses old new) net })) end
-    (settled_taken s new (or_none (is_past horizon old new) (refuses_pulse (new_pulses old new) net) past refused))
+    subst (λ (end : Option ℕ). IsSettled s given (Ok new) (step_by end) (record { notes = new; horizon = horizon_by horizon end; net = with_pulses (new_pulses old new) net })) end
+    (settled_taken s given new (or_none (is_past horizon given old new) (refuses_pulse (new_pulses old new) net) past refused))
 
-pub settled_finish : (old new : Notes) (horizon end : ℕ) (net : NetState) → is_past horizon old new ≡ false → refuses_pulse (new_pulses old new) net ≡ false → new.end ≡ Some end
-    → IsSettled (record { notes = old; horizon = horizon; net = net }) (Ok new) Finish (record { notes = new; horizon = end; net = with_pulses (new_pulses old new) net })
-settled_finish old new horizon end net past refused is =
+pub settled_finish : (old new : Notes) (given : Option ℕ) (horizon end : ℕ) (net : NetState) → is_past horizon given old new ≡ false → refuses_pulse (new_pulses old new) net ≡ false → new.end ≡ Some end
+    → IsSettled (record { notes = old; horizon = horizon; net = net }) given (Ok new) Finish (record { notes = new; horizon = end; net = with_pulses (new_pulses old new) net })
+settled_finish old new given horizon end net past refused is =
     let s : Standing = record { notes = old; horizon = horizon; net = net } in
-    subst (λ (end : Option ℕ). IsSettled s (Ok new) (step_by end) (record { notes = new; horizon = horizon_by horizon end; net = with_pulses (new_pulses old new) net })) is
-    (settled_taken s new (or_none (is_past horizon old new) (refuses_pulse (new_pulses old new) net) past refused))
+    subst (λ (end : Option ℕ). IsSettled s given (Ok new) (step_by end) (record { notes = new; horizon = horizon_by horizon end; net = with_pulses (new_pulses old new) net })) is
+    (settled_taken s given new (or_none (is_past horizon given old new) (refuses_pulse (new_pulses old new) net) past refused))
 
 pub only_one : (p : Stretch) (others : List Stretch) → length (p ∷ others) ≤ 1 → p ∷ others ≡ p ∷ []
 only_one p [] few = refl
@@ -88,9 +89,9 @@ only_one p (q ∷ others) few = absurd (omega (arith, few))
 
 -- ---- a session stays ready
 
-noted_cases : (s : Standing) (new : Notes) (late : Bool) → is_late s new ≡ late → (standing_with s (Ok new) ≡ s) ⊎ (standing_with s (Ok new) ≡ taken s new)
-noted_cases s new true e = inl (ap (λ b. if b then s else taken s new) e)
-noted_cases s new false e = inr (ap (λ b. if b then s else taken s new) e)
+noted_cases : (s : Standing) (given : Option ℕ) (new : Notes) (late : Bool) → is_late s given new ≡ late → (standing_with s given (Ok new) ≡ s) ⊎ (standing_with s given (Ok new) ≡ taken s new)
+noted_cases s given new true e = inl (ap (λ b. if b then s else taken s new) e)
+noted_cases s given new false e = inr (ap (λ b. if b then s else taken s new) e)
 
 pub drop_all : (xs : List TimedEvent) → drop (length xs) xs ≡ []
 drop_all [] = refl
@@ -151,10 +152,10 @@ kept_taken s new line applied left few r read =
     }
 
 pub kept : (s : Session) (t : Standing) (line : List ℕ) (applied : ℕ) (read : Result Notes (AtWord ScriptCause)) → s.place.events ≡ drop applied s.notes.events → applied ≤ length s.notes.events → IsReady s
-    → IsLineRead s.tree s.notes (length s.place.net.pulses) s.lines line read → t ≡ standing_with (standing s) read → IsKept s t applied
+    → IsLineRead s.tree s.notes (length s.place.net.pulses) s.lines line read → t ≡ standing_with (standing s) (pin_time line) read → IsKept s t applied
 kept s t line applied (Err fault) left few r read e = subst (λ (t : Standing). IsKept s t applied) (sym e) (kept_same s applied left few r)
 kept s t line applied (Ok new) left few r read e =
-    elim (noted_cases (standing s) new (is_late (standing s) new) refl) [
+    elim (noted_cases (standing s) (pin_time line) new (is_late (standing s) (pin_time line) new) refl) [
       | inl same ↦ subst (λ (t : Standing). IsKept s t applied) (sym (e ∙ same)) (kept_same s applied left few r)
       | inr more ↦ subst (λ (t : Standing). IsKept s t applied) (sym (e ∙ more)) (kept_taken s new line applied left few r read)
     ]

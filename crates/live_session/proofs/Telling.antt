@@ -37,7 +37,7 @@ use Rattle.live_session.specs.declared.command.SessionCommand.TheVariants as com
 use Rattle.live_session.specs.declared.edges.InstantRange.{InstantRange}
 use Rattle.live_session.specs.declared.live.Step.{Step}
 use Rattle.live_session.specs.declared.live.Step.TheVariants.{Refuse, Idle, Show, Go, Edge, Finish}
-use Rattle.live_session.specs.Command.{command_of}
+use Rattle.live_session.specs.Command.{command_of, pin_time}
 use Rattle.live_session.specs.Edges.{edge_line, edge_reported, edges_reported}
 use Rattle.live_session.specs.Turns.{LeadsWith, MayCome, certain_until}
 use Rattle.live_session.specs.Session.{Session, SessionGoes, is_given_before, is_late, is_past, new_events, new_pulses, refuse, refuses_pulse, rises_before, standing, standing_with, step_by, step_noted, step_show, step_to, step_wait, after_to, after_wait, with_line_counted, with_standing, IsDue, IsEdgeStep, IsEdgeStepBy, IsStepBy}
@@ -103,22 +103,25 @@ stays : (s t : Session) → t ≡ s → t.horizon ≡ s.horizon
 stays s t e = ap (λ (t : Session). t.horizon) e
 
 -- a line that is not late gives no end before the horizon
-end_late : (s : Session) (new : Notes) → is_late (standing s) new ≡ false → is_given_before s.horizon new.end ≡ false
-end_late s new e =
+end_late : (s : Session) (given : Option ℕ) (new : Notes) → is_late (standing s) given new ≡ false → is_given_before s.horizon new.end ≡ false
+end_late s given new e =
     let until = certain_until s.notes.pin s.horizon in
     let pulses = new_pulses s.notes new in
     let rises = rises_before s.horizon s.notes.pin pulses in
     let falls = is_given_before until new.pin in
     let ends = is_given_before s.horizon new.end in
-    let past = (neither (is_past s.horizon s.notes new) (refuses_pulse pulses s.place.net) e).0 in
-    let first = neither (list_any (λ e. nat_lt e.at s.horizon) (new_events s.notes new)) (list_any (λ p. nat_lt p.from until) pulses || (rises || (falls || ends))) past in
-    let second = neither (list_any (λ p. nat_lt p.from until) pulses) (rises || (falls || ends)) first.1 in
+    let scheduled = list_any (λ e. nat_lt e.at s.horizon) (new_events s.notes new) in
+    let begun = list_any (λ p. nat_lt p.from until) pulses in
+    let past = (neither (is_past s.horizon given s.notes new) (refuses_pulse pulses s.place.net) e).0 in
+    let added = (neither (is_given_before s.horizon given) (scheduled || (begun || (rises || (falls || ends)))) past).1 in
+    let first = neither scheduled (begun || (rises || (falls || ends))) added in
+    let second = neither begun (rises || (falls || ends)) first.1 in
     (neither falls ends (neither rises (falls || ends) second.1).1).1
 
-came_taken : (s : Session) (line : List ℕ) (new : Notes) → IsLineRead s.tree s.notes (length s.place.net.pulses) s.lines line (Ok new) → is_late (standing s) new ≡ false → Came s (with_standing s (taken (standing s) new))
+came_taken : (s : Session) (line : List ℕ) (new : Notes) → IsLineRead s.tree s.notes (length s.place.net.pulses) s.lines line (Ok new) → is_late (standing s) (pin_time line) new ≡ false → Came s (with_standing s (taken (standing s) new))
 came_taken s line new read late =
     let e = line_extends s.tree s.notes (length s.place.net.pulses) s.lines line new read in
-    let c = comes (standing s) new late in
+    let c = comes (standing s) (pin_time line) new late in
     record {
       events = new_events s.notes new;
       pulses = new_pulses s.notes new;
@@ -127,7 +130,7 @@ came_taken s line new read late =
       place_is = refl;
       edid_is = refl;
       since_is = refl;
-      later = from_end s.horizon new.end (end_late s new late);
+      later = from_end s.horizon new.end (end_late s (pin_time line) new late);
       comes = c;
     }
 
@@ -139,11 +142,11 @@ come_same : (s t : Session) (word : ℕ) (cause : RefusalCause) → t ≡ s → 
 come_same s t word cause e = record { came = came_same s t e; still = stays s t e }
 
 come_read : (s : Session) (line : List ℕ) (read : Result Notes (AtWord ScriptCause)) → IsLineRead s.tree s.notes (length s.place.net.pulses) s.lines line read
-    → HasCome (step_noted (standing s) read) s (with_standing s (standing_with (standing s) read))
+    → HasCome (step_noted (standing s) (pin_time line) read) s (with_standing s (standing_with (standing s) (pin_time line) read))
 come_read s line (Err fault) is = come_same s (with_standing s (standing s)) fault.word (Script fault.cause) (same_standing s)
-come_read s line (Ok new) is = by (is_late (standing s) new) refl
+come_read s line (Ok new) is = by (is_late (standing s) (pin_time line) new) refl
   where
-    by : (b : Bool) → is_late (standing s) new ≡ b → HasCome (if b then refuse 1 Past else step_by new.end) s (with_standing s (if b then standing s else taken (standing s) new))
+    by : (b : Bool) → is_late (standing s) (pin_time line) new ≡ b → HasCome (if b then refuse 1 Past else step_by new.end) s (with_standing s (if b then standing s else taken (standing s) new))
     by true e = come_same s (with_standing s (standing s)) 1 Past (same_standing s)
     by false e = record { came = came_taken s line new is e; still = still_by new.end s (with_standing s (taken (standing s) new)) }
 
@@ -174,7 +177,7 @@ come_edge s (Some until) step t is = by (nat_lt until s.horizon) is
 
 pub has_come : (s : Session) (command : SessionCommand) (line : List ℕ) (step : Step) (t : Session) → IsStepBy s command line step t → HasCome step s t
 has_come s commands.Script line step t (read, is, asks, stands) =
-    subst (λ (step : Step). HasCome step s t) (sym asks) (subst (λ (t : Session). HasCome (step_noted (standing s) read) s t) (sym stands) (come_read s line read is))
+    subst (λ (step : Step). HasCome step s t) (sym asks) (subst (λ (t : Session). HasCome (step_noted (standing s) (pin_time line) read) s t) (sym stands) (come_read s line read is))
 has_come s commands.Wait line step t (soon, is, asks, stands) =
     subst (λ (step : Step). HasCome step s t) (sym asks) (subst (λ (t : Session). HasCome (step_wait soon) s t) (sym stands) (come_waited s soon))
 has_come s (commands.RunTo time) line step t (asks, stands) =

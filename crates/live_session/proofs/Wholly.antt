@@ -26,7 +26,7 @@ use Rattle.live_session.specs.declared.command.SessionCommand.TheVariants as com
 use Rattle.live_session.specs.declared.live.Step.{Step}
 use Rattle.live_session.specs.declared.live.Step.TheVariants.{Refuse, Idle, Show, Go, Edge, Finish}
 use Rattle.live_session.specs.Turns.{IsReported, Goes, GoesWith, MayCome, certain_until}
-use Rattle.live_session.specs.Command.{command_of}
+use Rattle.live_session.specs.Command.{command_of, pin_time}
 use Rattle.live_session.specs.Session.{Session, Standing, first_session, refuse, with_line_counted, standing, with_standing, standing_with, step_noted, step_by, step_to, after_to, step_wait, after_wait, step_show, span_of, is_late, is_past, refuses_pulse, rises_before, is_given_before, horizon_by, new_events, new_pulses, IsEdgeStep, IsEdgeStepBy, IsStepBy, IsDue, SessionGoes}
 use Rattle.live_session.specs.Whole.{reported_of, AreLines, SessionsReportFronts, SessionsReportTraces}
 use Rattle.live_session.proofs.Below.{framed-started, reported_is_front, turns_stay_certain}
@@ -117,18 +117,21 @@ from_fall : (until on : ℕ) (pin : Option ℕ) → until ≤ on → is_given_be
 from_fall until on None le e = le
 from_fall until on (Some low) le e = (let later : until ≤ low = grind (arith, nat_tests) in omega (arith, le, later))
 
-pub comes : (s : Standing) (new : Notes) → is_late s new ≡ false
+pub comes : (s : Standing) (given : Option ℕ) (new : Notes) → is_late s given new ≡ false
     → ComesFrom (certain_until s.notes.pin s.horizon) (new_events s.notes new) (new_pulses s.notes new) (certain_until new.pin (horizon_by s.horizon new.end))
-comes s new e =
+comes s given new e =
     let until = certain_until s.notes.pin s.horizon in
     let events = new_events s.notes new in
     let pulses = new_pulses s.notes new in
     let rises = rises_before s.horizon s.notes.pin pulses in
     let falls = is_given_before until new.pin in
     let ends = is_given_before s.horizon new.end in
-    let past = (neither (is_past s.horizon s.notes new) (refuses_pulse pulses s.net) e).0 in
-    let first = neither (list_any (λ e. nat_lt e.at s.horizon) events) (list_any (λ p. nat_lt p.from until) pulses || (rises || (falls || ends))) past in
-    let second = neither (list_any (λ p. nat_lt p.from until) pulses) (rises || (falls || ends)) first.1 in
+    let scheduled = list_any (λ e. nat_lt e.at s.horizon) events in
+    let begun = list_any (λ p. nat_lt p.from until) pulses in
+    let past = (neither (is_past s.horizon given s.notes new) (refuses_pulse pulses s.net) e).0 in
+    let added = (neither (is_given_before s.horizon given) (scheduled || (begun || (rises || (falls || ends)))) past).1 in
+    let first = neither scheduled (begun || (rises || (falls || ends))) added in
+    let second = neither begun (rises || (falls || ends)) first.1 in
     let last = neither falls ends (neither rises (falls || ends) second.1).1 in
     let le = certain_by s.notes.pin s.horizon in
     let later = from_end s.horizon new.end last.1 in
@@ -157,7 +160,7 @@ same_standing s =
     (ap (λ (es : List TimedEvent). s.place.events ++ es) (drop_all s.notes.events) ∙ append-nil s.place.events)
 
 asked_taken : (edid : Option Edid) (tree : List Node) (s : Session) (reported line : List ℕ) (new : Notes) → SoFar edid tree s reported → IsLineRead s.tree s.notes (length s.place.net.pulses) s.lines line (Ok new)
-    → is_late (standing s) new ≡ false → SoFar edid tree (with_standing s (taken (standing s) new)) reported
+    → is_late (standing s) (pin_time line) new ≡ false → SoFar edid tree (with_standing s (taken (standing s) new)) reported
 asked_taken edid tree s reported line new r read late =
     let e = line_extends s.tree s.notes (length s.place.net.pulses) s.lines line new read in
     let events : s.notes.events ++ new_events s.notes new ≡ new.events = ap (λ (es : List TimedEvent). s.notes.events ++ es) (front_rest new.events s.notes.events e.events e.events_are) ∙ sym e.events_are in
@@ -165,7 +168,7 @@ asked_taken edid tree s reported line new r read late =
     let until = certain_until s.notes.pin s.horizon in
     let on = certain_until new.pin (horizon_by s.horizon new.end) in
     let place = with_more (new_events s.notes new) (new_pulses s.notes new) s.place in
-    let l = stay_on edid tree until on r.turns (length s.tree) s.notes s.place reported (new_events s.notes new) (new_pulses s.notes new) r.sound r.leads (comes (standing s) new late) in
+    let l = stay_on edid tree until on r.turns (length s.tree) s.notes s.place reported (new_events s.notes new) (new_pulses s.notes new) r.sound r.leads (comes (standing s) (pin_time line) new late) in
     record {
       edid_is = r.edid_is;
       turns = r.turns;
@@ -178,8 +181,8 @@ end_taken : (s : Session) (new : Notes) (end : Option ℕ) → new.end ≡ end �
 end_taken s new None e = e
 end_taken s new (Some end) e = e
 
-asked_late : (edid : Option Edid) (tree : List Node) (s : Session) (reported line : List ℕ) (new : Notes) (late : Bool) → is_late (standing s) new ≡ late → SoFar edid tree s reported → s.notes.end ≡ None
-    → IsLineRead s.tree s.notes (length s.place.net.pulses) s.lines line (Ok new) → Asked edid tree (step_noted (standing s) (Ok new)) (with_standing s (standing_with (standing s) (Ok new))) reported
+asked_late : (edid : Option Edid) (tree : List Node) (s : Session) (reported line : List ℕ) (new : Notes) (late : Bool) → is_late (standing s) (pin_time line) new ≡ late → SoFar edid tree s reported → s.notes.end ≡ None
+    → IsLineRead s.tree s.notes (length s.place.net.pulses) s.lines line (Ok new) → Asked edid tree (step_noted (standing s) (pin_time line) (Ok new)) (with_standing s (standing_with (standing s) (pin_time line) (Ok new))) reported
 asked_late edid tree s reported line new true e r going read =
     subst (λ (b : Bool). Asked edid tree (if b then refuse 1 Past else step_by new.end) (with_standing s (if b then standing s else taken (standing s) new)) reported) (sym e)
     (subst (λ (t : Session). Asked edid tree (refuse 1 Past) t reported) (sym (same_standing s)) (record { so_far = r; ended = going }))
@@ -192,10 +195,10 @@ asked_late edid tree s reported line new false e r going read =
     ended (Some end) h = subst (λ (end : Option ℕ). EndBy (step_by end) (with_standing s (record { notes = new; horizon = horizon_by s.horizon end; net = record s.place.net { pulses = s.place.net.pulses ++ new_pulses s.notes new } }))) (sym h) h
 
 asked_read : (edid : Option Edid) (tree : List Node) (s : Session) (reported line : List ℕ) (read : Result Notes (AtWord ScriptCause)) → SoFar edid tree s reported → s.notes.end ≡ None
-    → IsLineRead s.tree s.notes (length s.place.net.pulses) s.lines line read → Asked edid tree (step_noted (standing s) read) (with_standing s (standing_with (standing s) read)) reported
+    → IsLineRead s.tree s.notes (length s.place.net.pulses) s.lines line read → Asked edid tree (step_noted (standing s) (pin_time line) read) (with_standing s (standing_with (standing s) (pin_time line) read)) reported
 asked_read edid tree s reported line (Err fault) r going read =
     subst (λ (t : Session). Asked edid tree (refuse fault.word (Script fault.cause)) t reported) (sym (same_standing s)) (record { so_far = r; ended = going })
-asked_read edid tree s reported line (Ok new) r going read = asked_late edid tree s reported line new (is_late (standing s) new) refl r going read
+asked_read edid tree s reported line (Ok new) r going read = asked_late edid tree s reported line new (is_late (standing s) (pin_time line) new) refl r going read
 
 -- ---- its other lines
 
@@ -238,7 +241,7 @@ pub asked_by : (edid : Option Edid) (tree : List Node) (s : Session) (reported l
     → IsStepBy s command line step t → Asked edid tree step t reported
 asked_by edid tree s reported line commands.Script step t r going (read, is, asks, stands) =
     subst (λ (step : Step). Asked edid tree step t reported) (sym asks)
-    (subst (λ (t : Session). Asked edid tree (step_noted (standing s) read) t reported) (sym stands) (asked_read edid tree s reported line read r going is))
+    (subst (λ (t : Session). Asked edid tree (step_noted (standing s) (pin_time line) read) t reported) (sym stands) (asked_read edid tree s reported line read r going is))
 asked_by edid tree s reported line commands.Wait step t r going (soon, is, asks, stands) =
     subst (λ (step : Step). Asked edid tree step t reported) (sym asks)
     (subst (λ (t : Session). Asked edid tree (step_wait soon) t reported) (sym stands) (asked_wait edid tree s reported soon r going))

@@ -29,6 +29,18 @@ abbrev pub edges_words : Option (List ℕ) → SessionCommand
 edges_words None = Script
 edges_words (Some word) = if bytes_eq word (codes "on") then Edges true else if bytes_eq word (codes "off") then Edges false else Script
 
+-- the instant of a line `pin T LEVEL` of the script, also of one that changes nothing
+abbrev pub pin_words_time : Option (List ℕ × List ℕ) → Option ℕ
+pin_words_time None = None
+pin_words_time (Some words) = time_of words.0
+
+abbrev pub pin_verb_time : List (List ℕ) → Option ℕ
+pin_verb_time [] = None
+pin_verb_time (verb ∷ words) = if bytes_eq verb (codes "pin") then pin_words_time (two_of words) else None
+
+abbrev pub pin_time : List ℕ → Option ℕ
+pin_time line = pin_verb_time (words_of line)
+
 abbrev pub verb_words : List Node → List (List ℕ) → SessionCommand
 verb_words tree [] = Script
 verb_words tree (verb ∷ words) =

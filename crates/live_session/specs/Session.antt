@@ -32,7 +32,7 @@ use Rattle.live_session.specs.declared.answer.RefusalCause.{RefusalCause}
 use Rattle.live_session.specs.declared.answer.RefusalCause.TheVariants.{Script, Past}
 use Rattle.live_session.specs.declared.live.Step.{Step}
 use Rattle.live_session.specs.declared.live.Step.TheVariants.{Refuse, Idle, Show, Go, Edge, Finish}
-use Rattle.live_session.specs.Command.{command_of}
+use Rattle.live_session.specs.Command.{command_of, pin_time}
 use Rattle.live_session.specs.declared.edges.InstantRange.{InstantRange}
 use Rattle.live_session.specs.Edges.{first_edge, pinned_by}
 use Rattle.live_session.specs.Turns.{GoesWith, IsWithin, certain_until}
@@ -79,12 +79,14 @@ abbrev pub is_given_before : ℕ → Option ℕ → Bool
 is_given_before horizon None = false
 is_given_before horizon (Some time) = nat_lt time horizon
 
--- It is for an instant before the horizon. What begins, begins when it is still open; the pull that lets the pin go began before.
-abbrev pub is_past : ℕ → Notes → Notes → Bool
-is_past horizon old new =
-    list_any (λ e. nat_lt e.at horizon) (new_events old new)
+-- It is for an instant before the horizon. What begins, begins when it is still open; the pull that lets the pin go began before. A
+-- line of the pin gives its instant where it changes nothing, too.
+abbrev pub is_past : ℕ → Option ℕ → Notes → Notes → Bool
+is_past horizon given old new =
+    is_given_before horizon given
+    || (list_any (λ e. nat_lt e.at horizon) (new_events old new)
     || (list_any (λ p. nat_lt p.from (certain_until old.pin horizon)) (new_pulses old new)
-    || (rises_before horizon old.pin (new_pulses old new) || (is_given_before (certain_until old.pin horizon) new.pin || is_given_before horizon new.end)))
+    || (rises_before horizon old.pin (new_pulses old new) || (is_given_before (certain_until old.pin horizon) new.pin || is_given_before horizon new.end))))
 
 -- what a line of the script can change: what the lines say, the horizon, and the pulses that the network knows
 pub record Standing : Type 0 where
@@ -97,8 +99,8 @@ abbrev pub refuses_pulse : List Stretch → NetState → Bool
 refuses_pulse [] net = false
 refuses_pulse (pulse ∷ pulses) net = is_some (pulse_fault net pulse)
 
-abbrev pub is_late : Standing → Notes → Bool
-is_late s new = is_past s.horizon s.notes new || refuses_pulse (new_pulses s.notes new) s.net
+abbrev pub is_late : Standing → Option ℕ → Notes → Bool
+is_late s given new = is_past s.horizon given s.notes new || refuses_pulse (new_pulses s.notes new) s.net
 
 -- the end is the last horizon
 abbrev pub horizon_by : ℕ → Option ℕ → ℕ
@@ -113,16 +115,17 @@ step_by (Some end) = Finish
 abbrev pub refuse : ℕ → RefusalCause → Step
 refuse word cause = Refuse (record { cause = cause; word = word })
 
--- what the line asks for: it is refused for its own cause, or else because it is too late, with its time at fault, or else taken
-abbrev pub step_noted : Standing → Result Notes (AtWord ScriptCause) → Step
-step_noted s (Err fault) = refuse fault.word (Script fault.cause)
-step_noted s (Ok new) = if is_late s new then refuse 1 Past else step_by new.end
+-- what the line asks for, by the instant that it gives the pin: it is refused for its own cause, or else because it is too late, with
+-- its time at fault, or else taken
+abbrev pub step_noted : Standing → Option ℕ → Result Notes (AtWord ScriptCause) → Step
+step_noted s given (Err fault) = refuse fault.word (Script fault.cause)
+step_noted s given (Ok new) = if is_late s given new then refuse 1 Past else step_by new.end
 
 -- and what it changes; a refusal changes nothing
-abbrev pub standing_with : Standing → Result Notes (AtWord ScriptCause) → Standing
-standing_with s (Err fault) = s
-standing_with s (Ok new) =
-    if is_late s new then s else record { notes = new; horizon = horizon_by s.horizon new.end; net = with_pulses (new_pulses s.notes new) s.net }
+abbrev pub standing_with : Standing → Option ℕ → Result Notes (AtWord ScriptCause) → Standing
+standing_with s given (Err fault) = s
+standing_with s given (Ok new) =
+    if is_late s given new then s else record { notes = new; horizon = horizon_by s.horizon new.end; net = with_pulses (new_pulses s.notes new) s.net }
 
 abbrev pub standing : Session → Standing
 standing s = record { notes = s.notes; horizon = s.horizon; net = s.place.net }
@@ -216,7 +219,7 @@ step_show (Some device) = Show device
 
 abbrev pub IsStepBy : Session → SessionCommand → List ℕ → Step → Session → Type 0
 IsStepBy s commands.Script line step t =
-    (read : Result Notes (AtWord ScriptCause)) × IsLineRead s.tree s.notes (length s.place.net.pulses) s.lines line read × (step ≡ step_noted (standing s) read) × (t ≡ with_standing s (standing_with (standing s) read))
+    (read : Result Notes (AtWord ScriptCause)) × IsLineRead s.tree s.notes (length s.place.net.pulses) s.lines line read × (step ≡ step_noted (standing s) (pin_time line) read) × (t ≡ with_standing s (standing_with (standing s) (pin_time line) read))
 IsStepBy s commands.Wait line step t = (soon : Option ℕ) × IsSoonest (certain_until s.notes.pin latest_event) s.place soon × (step ≡ step_wait soon) × (t ≡ after_wait s soon)
 IsStepBy s (commands.RunTo time) line step t = (step ≡ step_to s time) × (t ≡ after_to s time)
 IsStepBy s (commands.Show device) line step t = (step ≡ step_show device) × (t ≡ s)

@@ -3,7 +3,7 @@ ghost use Rattle.std.specs.Prelude.{◌≡◌};
 ghost use Rattle.std.specs.Option.{option_copied};
 ghost use Rattle.text_core.specs.Words.{one_of, two_of, words_after};
 ghost use Rattle.room_script.specs.Script.{time_of};
-ghost use Rattle.live_session.specs.Command.{command_of, edge_words, edges_words, run_words, show_words};
+ghost use Rattle.live_session.specs.Command.{command_of, edge_words, edges_words, pin_time, pin_words_time, run_words, show_words};
 
 use edid_tree::Tree;
 use room_script::time_in;
@@ -73,6 +73,28 @@ fn edges_in(rest: Option<&[u8]>) -> SessionCommand
         SessionCommand::Edges(false)
     } else {
         SessionCommand::Script
+    }
+}
+
+// The time in the words after `pin`.
+fn pin_time_in(rest: Option<&[u8]>) -> Option<u64>
+    ensures { result ≡ pin_words_time (two_of (words_after (option_copied rest.entry))) }
+{
+    let Some((time, _level)) = two_words(rest) else {
+        return None;
+    };
+    time_in(time)
+}
+
+/// The instant of a line `pin T LEVEL`, also of one that changes nothing.
+pub(crate) fn pin_time(line: &[u8]) -> Option<u64>
+    ensures { result ≡ pin_time line.now }
+{
+    let (verb, rest) = first_word(line);
+    if verb == b"pin".as_slice() {
+        pin_time_in(rest)
+    } else {
+        None
     }
 }
 

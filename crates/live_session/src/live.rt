@@ -120,6 +120,7 @@ impl Live {
     ghost use Rattle.room_run.specs.declared.run.Reporting.TheVariants.{Trace};
     ghost use Rattle.room_run.specs.Run.{end_reported, start_reported};
     ghost use Rattle.live_session.specs.declared.live.Step.TheVariants.{Edge, Finish, Go, Idle, Refuse, Show};
+    ghost use Rattle.live_session.specs.Command.{pin_time};
     ghost use Rattle.live_session.specs.Note.{IsSettled};
     ghost use Rattle.live_session.specs.Session.{IsEdgeStep, IsSoonest, IsStep, NamesShown, after_to, after_wait, first_session, span_of, with_line_counted, standing, step_to, step_wait, taken_line, with_standing};
     ghost use Rattle.live_session.specs.Turns.{certain_until};
@@ -170,7 +171,7 @@ impl Live {
         requires going { self.old.notes.end ≡ None }
         ensures { MatchOption result (self.new ≡ self.old)
             (λ step. (read : Result Notes (AtWordValue CauseValue)) × IsLineRead self.old.tree self.old.notes (length self.old.place.net.pulses) self.old.lines line.now read
-            × IsSettled (standing self.old) read step (standing self.new) × (self.new ≡ with_standing self.old (standing self.new))) }
+            × IsSettled (standing self.old) (pin_time line.now) read step (standing self.new) × (self.new ≡ with_standing self.old (standing self.new))) }
     {
         note_line(
             &self.tree,

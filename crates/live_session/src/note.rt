@@ -6,12 +6,14 @@ ghost use Rattle.room_script.specs.Lines.{Extends};
 ghost use Rattle.room_script.specs.declared.script.ScriptCause.{ScriptCause as CauseValue};
 ghost use Rattle.text_core.specs.declared.at.AtWord.{AtWord as AtWordValue};
 ghost use Rattle.room_run.specs.Certain.{with_pulses};
+ghost use Rattle.live_session.specs.Command.{pin_time};
 ghost use Rattle.live_session.specs.Note.{IsSettled, refused_by};
 ghost use Rattle.live_session.specs.Session.{is_given_before, refuse, refuses_pulse, rises_before};
 ghost use Rattle.live_session.specs.Turns.{certain_until};
 ghost use Rattle.live_session.specs.declared.answer.RefusalCause.TheVariants.{Past};
 
 use crate::answer::{Refusal, RefusalCause};
+use crate::command::pin_time;
 use crate::foreseen::Foreseen;
 use crate::live::Step;
 use crate::turns::certain_until;
@@ -99,16 +101,18 @@ struct Before {
     pin: Option<u64>,
 }
 
-// Whether what a line adds, a fall of the pin, or an end, is for an instant before the horizon.
-fn is_past(draft: &ScriptDraft, before: Before, horizon: u64) -> bool
-    ensures { result ≡ (list_any (λ e. nat_lt e.at horizon) (drop before.events draft.now.events.items)
+// Whether a line of the pin, which gives this instant, what a line adds, or an end is for an instant before the horizon.
+fn is_past(draft: &ScriptDraft, before: Before, given: Option<u64>, horizon: u64) -> bool
+    ensures { result ≡ (is_given_before horizon given
+        || (list_any (λ e. nat_lt e.at horizon) (drop before.events draft.now.events.items)
         || (list_any (λ p. nat_lt p.from (certain_until before.pin horizon)) (drop before.pulses draft.now.pulses.items)
         || (rises_before horizon before.pin (drop before.pulses draft.now.pulses.items)
-        || (is_given_before (certain_until before.pin horizon) draft.now.pin || is_given_before horizon draft.now.end)))) }
+        || (is_given_before (certain_until before.pin horizon) draft.now.pin || is_given_before horizon draft.now.end))))) }
 {
     let pulses = after(&draft.pulses, before.pulses);
     let certain = certain_until(before.pin, horizon);
-    any_event_before(after(&draft.events, before.events), horizon)
+    is_given_before(horizon, given)
+        || any_event_before(after(&draft.events, before.events), horizon)
         || any_pulse_before(pulses, certain)
         || rises_before(horizon, before.pin, pulses)
         || is_given_before(certain, draft.pin)
@@ -130,14 +134,20 @@ fn take_back(draft: &mut ScriptDraft, before: Before) -> Step
     })
 }
 
-// What becomes of a line that the draft has taken, before which there was no end.
-fn settle(draft: &mut ScriptDraft, before: Before, net: &mut Foreseen, horizon: &mut u64) -> Step
+// What becomes of a line that the draft has taken, before which there was no end. A line of the pin gives its instant.
+fn settle(
+    draft: &mut ScriptDraft,
+    before: Before,
+    given: Option<u64>,
+    net: &mut Foreseen,
+    horizon: &mut u64,
+) -> Step
     requires few { length (drop before.pulses draft.old.pulses.items) ≤ 1 }
     ensures { (old : Notes) → old.end ≡ None → Extends old (notes_of draft.old) → before.events ≡ length old.events → before.pulses ≡ length old.pulses → before.pin ≡ old.pin
-        → IsSettled (record { notes = old; horizon = horizon.old; net = net.old }) (Ok (notes_of draft.old)) result
+        → IsSettled (record { notes = old; horizon = horizon.old; net = net.old }) given (Ok (notes_of draft.old)) result
         (record { notes = notes_of draft.new; horizon = horizon.new; net = net.new }) }
 {
-    if is_past(draft, before, *horizon) {
+    if is_past(draft, before, given, *horizon) {
         return take_back(draft, before);
     }
     if add_pulse(net, after(&draft.pulses, before.pulses)) {
@@ -177,7 +187,7 @@ pub(crate) fn note_line(
     ensures { MatchOption result
         ((notes_of draft.new ≡ notes_of draft.old) × (horizon.new ≡ horizon.old) × (net.new ≡ net.old))
         (λ step. (read : Result Notes (AtWordValue CauseValue)) × IsLineRead tree.now (notes_of draft.old) (length net.old.pulses) number line.now read
-        × IsSettled (record { notes = notes_of draft.old; horizon = horizon.old; net = net.old }) read step
+        × IsSettled (record { notes = notes_of draft.old; horizon = horizon.old; net = net.old }) (pin_time line.now) read step
         (record { notes = notes_of draft.new; horizon = horizon.new; net = net.new })) }
 {
     let before = Before {
@@ -186,7 +196,7 @@ pub(crate) fn note_line(
         pin: draft.pin,
     };
     match take_line(tree, draft, net.waiting(), number, line) {
-        Ok(()) => Some(settle(draft, before, net, horizon)),
+        Ok(()) => Some(settle(draft, before, pin_time(line), net, horizon)),
         Err(error) => refused_by(error),
     }
 }

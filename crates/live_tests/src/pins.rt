@@ -194,10 +194,48 @@ const EARLY: &str = "\
 = 39501
 ";
 
+/// A line of the pin is for its instant, also where the pin has that level: before the horizon it is refused, and at the horizon taken.
+const UNCHANGED: &str = "\
+> device tv tv 1
+> script
+> pin 10 0
+= 0
+> pin 20 1
+= 0
+> run to 30
+10 20 bad-start - by - out -
+= 30
+> pin 25 1
+! 4 past
+> pin 29 1
+! 5 past
+> pin 30 1
+= 30
+> pin 19 1
+! 7 order
+> pin 40 0
+= 30
+> run to 60
+= 60
+> pin 45 0
+! 10 past
+> pin 59 0
+! 11 past
+> pin 60 0
+= 60
+> pin 39 0
+! 13 order
+> pin 45 1
+! 14 past
+> pin 60 1
+= 60
+";
+
 #[test]
 fn goes_by_a_pin(rt: HostRuntime) {
     is_said(&rt, ACKNOWLEDGED, "script line 20: end");
     is_said(&rt, HELD, "script line 17: end");
     is_said(&rt, CLOSED, "script line 12: end");
     is_said(&rt, EARLY, "script line 12: end");
+    is_said(&rt, UNCHANGED, "script line 16: end");
 }
