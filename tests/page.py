@@ -621,7 +621,9 @@ def round_is_shown(t, what, got, page):
     t.same(f"{what}: label", got["label"], f"{label} → {to}" if is_open else label)
     verdict = page_values.verdict(one)
     t.same(f"{what}: verdict", got["verdict"], verdict + (f"⚠ {len(remarks)}" if remarks else ""))
-    t.same(f"{what}: attempt", got["notes"], [f"attempt {attempt}"] if attempt and attempt > 1 else [])
+    answered = [request for request, answer in run.answers() if answer is one]
+    delay = [f"answers in {page_values.duration(one['begin'] - request['close'])}" for request in answered]
+    t.same(f"{what}: attempt", got["notes"], [f"attempt {attempt}"] if attempt and attempt > 1 else delay)
     t.same(f"{what}: out", [got["titles"], [text for text in got["warnings"] if "out" in text]],
            [[page.why(out) for out in page.losers()], [f"out @{out['slot']}" for out in page.losers()]])
     marks = got["marks"]
@@ -837,6 +839,30 @@ def searches_find(t, b):
     sight = b.js("testing.app.chart.sight().map(i => testing.app.chart.shown[i].at / testing.app.model.end)")
     t.holds("the strip's window is dragged", sight[0] < 0.85 and sight[1] > 0.75, sight)
     t.same("and selects nothing", b.js("testing.app.selected.at"), at)
+
+
+def runs_stand_beside(t, b):
+    """A run beside another one: the rows of both, aligned, and the first difference marked."""
+    room = example("first-path.net")
+    other = room.replace("at 1000000 press p1 play\n", "at 1000000 press p1 play\nat 1200000 press p1 stop\n").replace("end 1500000", "end 1700000")
+    page = os.path.join(ROOM, "beside.html")
+    subprocess.run([os.path.join(TOP, "tools/page"), written("one.net", room), "--beside", written("other.net", other), "-o", page],
+                   check=True)
+    b.open(page)
+    b.js(HELPERS)
+    lines = [[line for line in program(text, "run").splitlines() if re.match(r"\d+ (\d+ [a-z]|event)", line)] for text in (room, other)]
+    more = [line for line in lines[1] if line not in lines[0]]
+    t.same("the second run has more", len(lines[1]) - len(lines[0]), len(more))
+    t.same("its panel is shown", b.js("testing.app.panel"), "beside")
+    rows = b.js(TABLE)[0][1:]
+    t.same("what is of the second alone", [row[3] for row in rows if row[0] == "+"], [re.sub(r"^\d+ (\d+ )?", "", line) for line in more])
+    t.same("nothing is of the first alone", [row for row in rows if row[0] == "−"], [])
+    t.same("aligned as the program has it", b.js("(({ pairs, same }) => [pairs.length, same])(testing.app.besideOf(testing.app.model))"),
+           [len(lines[1]), len(lines[0])])
+    same = os.path.join(EXAMPLES, "first-path.net")
+    subprocess.run([os.path.join(TOP, "tools/page"), same, "--beside", same, "-o", page], check=True)
+    b.open(page)
+    t.holds("a run beside itself", "Both say the same, in the same order." in b.js("document.getElementById('panel').textContent"))
 
 
 class Live:
@@ -1429,7 +1455,7 @@ def sources_are_plain(t, _):
 
 ALL = [sources_are_plain, verdicts_are_drawn, colours_differ, retries_are_folded, wave_is_drawn, other_lines_are_noticed,
        capture_is_drawn, advice_is_shown, attempts_are_the_audits, words_are_the_standards, reports_are_shown, values_of_an_evening,
-       values_of_retries, values_of_a_loose_device, values_of_a_capture, failures_are_drawn, keys_reach_all, searches_find, other_sizes_fit, live_page_runs, live_server_is_careful, mouse_works, hostile_inputs_are_harmless,
+       values_of_retries, values_of_a_loose_device, values_of_a_capture, failures_are_drawn, keys_reach_all, searches_find, other_sizes_fit, runs_stand_beside, live_page_runs, live_server_is_careful, mouse_works, hostile_inputs_are_harmless,
        inferences_are_the_programs, sentences_are_the_programs, dumps_are_read, files_may_be_dropped, pages_are_made,
        examples_have_pages,
        long_runs_are_fast]

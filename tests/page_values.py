@@ -108,6 +108,7 @@ class Run:
         lines = program("\n".join(frames) + "\n", "dis", "--meaning").splitlines() if frames else []
         self.sentences = dict(zip(frames, [line[2:] for line in lines if line.startswith("  ")]))
         self.opcodes = {one["bytes"][2:4]: one["frame"].split(" ")[1] for one in self.rounds if len(one.get("bytes") or "") > 2}
+        self.pairs = None
         self.rows = self.rows_of()
         if not self.is_capture:
             self.states = self.states_of(program, room)
@@ -152,6 +153,20 @@ class Run:
             before = known
         return states
 
+    def answers(self):
+        """Pairs of a request and the first frame that answers it, within five seconds: by the names of the messages (CEC 13)."""
+        if self.pairs is None:
+            self.pairs, taken = [], set()
+            whole = [one for one in self.rounds if one["ending"] == "complete" and one["verdict"] in ("ack", "ok") and len(one["bytes"]) > 2]
+            for number, answer in enumerate(whole):
+                for request in whole[:number]:
+                    if id(request) in taken or answer["begin"] - request["close"] > 5000000 or not is_answer(request, answer):
+                        continue
+                    taken.add(id(request))
+                    self.pairs.append((request, answer))
+                    break
+        return self.pairs
+
     def lanes(self):
         """The lanes of a capture: who sends or acknowledges."""
         sent = {sender_of(one) for one in self.rounds} - {""}
@@ -179,6 +194,24 @@ def below(objects):
         elif last is not None:
             last.append(one)
     return found
+
+
+# CEC 13: which message answers which
+REPLIES = {"give-osd-name": "set-osd-name", "give-physical-address": "report-physical-address", "give-device-vendor-id": "device-vendor-id",
+           "get-cec-version": "cec-version", "get-menu-language": "set-menu-language", "give-device-power-status": "report-power-status",
+           "give-audio-status": "report-audio-status", "give-system-audio-mode-status": "system-audio-mode-status",
+           "system-audio-mode-request": "set-system-audio-mode", "give-deck-status": "deck-status", "menu-request": "menu-status",
+           "give-tuner-device-status": "tuner-device-status", "request-active-source": "active-source"}
+
+
+def is_answer(request, answer):
+    asked, said = request["frame"].split(" ")[1], answer["frame"].split(" ")[1]
+    is_to = answer["destination"] in (request["initiator"], "f")
+    is_from = request["destination"] in (answer["initiator"], "f")
+    is_abort = said == "feature-abort" and answer["bytes"][4:6] == request["bytes"][2:4]
+    if is_abort and (asked == "feature-abort" or request["destination"] == "f" and asked not in REPLIES):
+        return False
+    return is_to and is_from and (is_abort or REPLIES.get(asked) == said)
 
 
 def logical(state):
@@ -304,6 +337,14 @@ class Page:
         if place > 0:
             since = one["begin"] - self.run.rounds[place - 1]["close"]
             rows.append(["Before", f"{since} µs since the close of the round above"])
+        answers = self.run.answers()
+        for request, answer in answers:
+            delay = duration(answer["begin"] - request["close"])
+            if request is one:
+                rows.append(["Answer", f"{label(answer)}, {delay}"])
+        for request, answer in answers:
+            if answer is one:
+                rows.append(["Answers", f"{label(request)}, {duration(answer['begin'] - request['close'])}"])
         return rows
 
     def blocks(self):

@@ -1,9 +1,11 @@
 // The chart: time runs down, and a lifeline stands for each device. Only the rows in sight are in the document.
 
 import { byId, duration, seconds, shortened, svg } from './elements.js';
+import { delayOf } from './answers.js';
 import { deviceAt } from './model.js';
 import { blockOf } from './slots.js';
 import { lowerBound } from './texts.js';
+import { meaningOf, verdictInWords } from './words.js';
 
 export const CHARACTER = 6.65; // width of a character of the chart's font, in pixels
 const HEIGHTS = { round: 32, event: 24, gap: 18, ports: 22, end: 22, test: 24 };
@@ -250,6 +252,7 @@ class RowPicture {
         'aria-setsize': chart.shown.length, 'aria-label': row.o ? row.o.line.slice(0, 200) : row.text || row.type,
       },
       svg('rect', { class: 'hit', x: 0, y: top, width: chart.width, height }),
+      row.type === 'round' && svg('title', { class: 'about' }, meaningOf(row.o, chart.app.model)),
     );
   }
 
@@ -369,7 +372,7 @@ class RowPicture {
     const folded = row.folded ? ` ×${row.folded.length}` : '';
     const remarks = row.remarks.length > 0 && svg('tspan', { class: 'warn', dx: 8 }, `⚠ ${row.remarks.length}`);
     const place = { class: 'verdict', x: chart.width - RIGHT + 14, y: y + 4 };
-    this.add(svg('text', place, row.verdict + folded, remarks));
+    this.add(svg('g', {}, svg('title', {}, verdictInWords(row)), svg('text', place, row.verdict + folded, remarks)));
   }
   drawHead(from, to) {
     this.path('solid', `M${to} ${this.y}l${to > from ? -9 : 9} -4.5v9z`);
@@ -445,7 +448,8 @@ class RowPicture {
     const kind = row.o.ending === 'bad-start' ? `${row.o.ending}s` : 'attempts';
     const folded = row.folded ? `▸ ${kind} 1–${row.folded.length}` : '';
     const which = folded || (row.attempt > 1 ? `attempt ${row.attempt}` : '');
-    if (which) this.drawNote(which, 'note', -8);
+    const answers = row.answers ? `answers in ${duration(delayOf(row))}` : '';
+    if (which || answers) this.drawNote(which || answers, 'note', -8);
   }
 }
 

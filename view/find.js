@@ -11,6 +11,14 @@ function wordsIn(row) {
   return row.find;
 }
 
+const AT_ONCE = 4000; // rows
+/* Makes the words of all rows ready while nothing else is to be done, so that the first search is as fast as the next ones. */
+export function makeReady(model, from = 0) {
+  const to = Math.min(from + AT_ONCE, model.rows.length);
+  for (let i = from; i < to; i++) wordsIn(model.rows[i]);
+  if (to < model.rows.length) setTimeout(() => makeReady(model, to), 10);
+}
+
 /* Whether one of some lanes is meant by a name: its own, that on the screen, or an address. */
 const isOneOf = (model, lanes, name) => lanes.some(lane => {
   const { name: own, osdName } = model.lanes[lane];

@@ -2,6 +2,7 @@
 // page. Nothing else is asked of a network.
 
 import { byId, html, link } from './elements.js';
+import { nearest } from './strip.js';
 import { asText } from './texts.js';
 import { app } from './view.js';
 
@@ -44,13 +45,16 @@ function place() {
   const { selected, panel, banded, wave } = app;
   return {
     line: selected && selected.o ? selected.o.line : null, at: selected ? selected.at : null, panel,
+    text: selected ? selected.text : null,
     banded: banded ? banded.test : null, from: wave.from, to: wave.to, scroll: byId('chart').scrollTop,
   };
 }
 function backTo(before) {
   const { rows } = app.model;
   if (before.at === null || rows.length === 0) return;
-  const row = rows.find(one => one.o && one.o.line === before.line) || rows.find(one => one.at >= before.at) || rows.at(-1);
+  const same = rows.find(one => one.o && one.o.line === before.line);
+  const alike = rows.filter(one => one.text === before.text && one.type !== 'gap');
+  const row = same || nearest(alike.length > 0 ? alike : rows, before.at);
   app.banded = app.model.tests.find(test => test.test === before.banded) || null;
   app.select(row, { keepsPanel: true, keepsWave: true });
   app.openPanel(before.panel);

@@ -2,6 +2,7 @@
 // What the program does not write is inferred here, and docs/picture.md lists it: who receives, and addresses where no session of
 // `live` tells them.
 
+import { tieAnswers } from './answers.js';
 import { asList, asText, kindOf, lowerBound, readDump, readEdges, readFindings, readObjects } from './texts.js';
 import { readRoom, readSentences, smoothed, turned } from './texts.js';
 import { addressName } from './words.js';
@@ -47,6 +48,7 @@ export function build(texts) {
   addRows(model);
   for (const { bytes, frame } of model.rounds) if (bytes.length > 2) model.names.set(bytes.slice(2, 4), frame.split(' ')[1]);
   model.rounds.sort((a, b) => a.begin - b.begin);
+  tieAnswers(model);
   model.end = Math.max(...model.rows.slice(-3).map(row => row.until || row.at), 1);
   addTests(model);
   model.events = model.rows.filter(row => row.type === 'event');

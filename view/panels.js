@@ -1,6 +1,8 @@
 // The side panel: what is selected, what to look at, the report, the rows as a table, the devices at the end, who sent what,
 // EDIDs and notes.
 
+import { delayOf } from './answers.js';
+import { drawBeside } from './beside.js';
 import { whyStopped } from './chart.js';
 import { counted, duration, html, link, seconds, svg, table } from './elements.js';
 import { senderOf } from './model.js';
@@ -9,6 +11,7 @@ import { acknowledgersOf, blockOf, freeBefore, isWithin, lowWindow, partOf, slot
 import { addressInWords, CAUSES, meaningOf, partyName, stateWord } from './words.js';
 
 const MOST_LISTED = 500;
+const MOST_FLAT = 40; // longer lists are grouped by kind
 const PAGE_OF_TABLE = 200;
 
 /* The tabs: when each is there, and what it draws. */
@@ -17,6 +20,7 @@ export const PANELS = {
   look: { name: 'To look at', isThere: model => model.rows.length > 0, draw: drawToLookAt },
   report: { name: 'Report', isThere: model => model.tests.length > 0 || model.stretches.length > 0, draw: drawReport },
   table: { name: 'Table', isThere: model => model.rows.length > 0, draw: drawTable },
+  beside: { name: 'Beside', isThere: model => Boolean(model.isBeside), draw: drawBeside },
   room: { name: 'Room', isThere: hasRoom, draw: drawRoom },
   devices: { name: 'At the end', isThere: model => model.states.length > 0, draw: drawDevices },
   talk: { name: 'Who sent what', isThere: model => model.rounds.length > 0, draw: drawTalk },
@@ -56,7 +60,7 @@ function drawRound(app, model, row) {
   return [
     html('h2', {}, round.ending === 'complete' ? round.frame : `${round.ending} ${round.bits}`),
     html('p', {}, html('span', { class: `tag ${row.cls}` }, row.verdict), ' ', meaningOf(round, model)),
-    table(partiesAndTimes(model, row)),
+    table(partiesAndTimes(app, model, row)),
     round.bytes && blocks(model, round),
     widths(model, round),
     row.remarks.length > 0 && [html('h3', {}, 'Remarks of the audit'), list(row.remarks.map(inWords))],
@@ -69,7 +73,10 @@ function drawRound(app, model, row) {
 const inWords = ({ text, section }) => (section ? `${text} (CEC ${section})` : text);
 const list = texts => html('ul', {}, texts.map(text => html('li', {}, text)));
 
-function partiesAndTimes(model, row) {
+/* A frame beside its question or its answer, with the time between the two. */
+const answerLink = (app, shown, answer) => link(`${shown.text}, ${duration(delayOf(answer))}`, () => app.select(shown));
+
+function partiesAndTimes(app, model, row) {
   const round = row.o;
   const name = lane => partyName(model, lane, round.begin);
   const both = lanes => lanes.map(name).join(' and ');
@@ -87,6 +94,8 @@ function partiesAndTimes(model, row) {
     ['Begin', `${round.begin} µs`],
     ['Close', `${round.close} µs, ${round.close - round.begin} later`],
     before && ['Before', `${round.begin - before.close} µs since the close of the round above`],
+    row.answer && ['Answer', answerLink(app, row.answer, row.answer)],
+    row.answers && ['Answers', answerLink(app, row.answers, row)],
   ].filter(Boolean);
 }
 
@@ -179,9 +188,9 @@ function drawEvent(app, model, row) {
 function drawToLookAt(app, model) {
   const found = new Map();
   for (const row of model.rows) {
-    for (const [what, cls] of oddities(model, row)) {
+    for (const [what, cls, kind] of oddities(model, row)) {
       if (found.has(what)) found.get(what).rows.push(row);
-      else found.set(what, { what, cls, rows: [row], next: 0 });
+      else found.set(what, { what, cls, kind, rows: [row], next: 0 });
     }
   }
   const all = [...found.values()];
@@ -199,43 +208,47 @@ function drawToLookAt(app, model) {
     html('td', {}, html('button', { class: `link ${one.cls}`, style: 'color:var(--c)', click: () => goTo(one) }, one.what)),
     html('td', { class: 'number' }, one.rows.length > 1 ? `×${one.rows.length}` : ''),
   );
-  return [
-    dim(all.length > 0 ? head : 'Nothing was refused, lost or broken.'),
-    html('table', {}, all.slice(0, MOST_LISTED).map(line)),
-  ];
+  const lines = list => html('table', {}, list.slice(0, MOST_LISTED).map(line));
+  if (all.length <= MOST_FLAT) return [dim(all.length > 0 ? head : 'Nothing was refused, lost or broken.'), lines(all)];
+  const kinds = [...new Set(all.map(one => one.kind))].map(kind => all.filter(one => one.kind === kind));
+  const rows = list => list.reduce((sum, one) => sum + one.rows.length, 0);
+  const group = list => html('details', {}, html('summary', {}, `${list[0].kind}: ${counted(rows(list), 'row')}`), lines(list));
+  return [dim(head), kinds.map(group)];
 }
+/* What is odd of a row: what is said of it, its colour, and of which kind that is. */
 function oddities(model, row) {
   const names = lanes => lanes.map(lane => model.lanes[lane].name).join(', ');
   const odd = [];
-  if (row.type === 'event' && row.o.verdict !== 'ok') odd.push([`${row.text}: ${row.verdict}`, 'event']);
-  if (row.type === 'test') odd.push([row.text, 'failed']);
+  if (row.type === 'event' && row.o.verdict !== 'ok') odd.push([`${row.text}: ${row.verdict}`, 'event', 'Refused events']);
+  if (row.type === 'test') odd.push([row.text, 'failed', 'Failed tests']);
   for (const { lane, text, was } of row.changes) {
     const { name, kind } = model.lanes[lane];
-    if (text === '–') odd.push([`${name} loses the address ${was}: ${row.text}`, 'broken']);
-    if (text === 'f' && kind !== 'switch' && row.type === 'round') odd.push([`${name} settles without an address`, 'broken']);
+    if (text === '–') odd.push([`${name} loses the address ${was}: ${row.text}`, 'broken', 'Lost addresses']);
+    const isSettled = text === 'f' && kind !== 'switch' && row.type === 'round';
+    if (isSettled) odd.push([`${name} settles without an address`, 'broken', 'Devices without an address']);
   }
   if (row.type !== 'round') return odd;
   const { o } = row;
   if (row.cls === 'broken') {
-    odd.push([`${row.text}${row.from.length > 0 ? ` of ${names(row.from)}` : ''}`, 'broken']);
+    odd.push([`${row.text}${row.from.length > 0 ? ` of ${names(row.from)}` : ''}`, 'broken', 'Broken rounds']);
   } else if (row.cls === 'nack' && row.first === row) {
     const what = o.frame || `${names(row.from)} to ${row.destination}`;
-    odd.push([`${what}: not acknowledged${row.attempts > 1 ? `, ${row.attempts} attempts` : ''}`, 'nack']);
+    odd.push([`${what}: not acknowledged${row.attempts > 1 ? `, ${row.attempts} attempts` : ''}`, 'nack', 'Not acknowledged']);
   } else if (row.cls === 'refused') {
-    odd.push([`${o.frame || row.text}: refused`, 'refused']);
+    odd.push([`${o.frame || row.text}: refused`, 'refused', 'Refused by somebody']);
   } else if (o.bytes.slice(2, 4) === '00') {
-    odd.push([o.frame, 'nack']);
+    odd.push([o.frame, 'nack', 'Feature Abort']);
   }
   if (row.verdict === 'taken') {
     const whose = row.from.length > 0 ? `: not for ${model.lanes[row.from[0]].name}` : '';
-    odd.push([`address ${o.initiator} is taken${whose}`, 'poll']);
+    odd.push([`address ${o.initiator} is taken${whose}`, 'poll', 'Addresses that are taken']);
   }
   if (row.losers.length > 0 && row.cls !== 'broken') {
-    odd.push([row.losers.map(loser => whyStopped(model, loser)).join('; '), 'poll']);
+    odd.push([row.losers.map(loser => whyStopped(model, loser)).join('; '), 'poll', 'Lost arbitrations']);
   }
   if (row.remarks.length > 0) {
     const others = row.remarks.length > 1 ? ` and ${row.remarks.length - 1} more` : '';
-    odd.push([row.remarks[0].text + others, 'broken']);
+    odd.push([row.remarks[0].text + others, 'broken', `Remarks: ${row.remarks[0].kind}`]);
   }
   return odd;
 }

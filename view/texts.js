@@ -294,13 +294,21 @@ export function readDump(text, signal) {
   };
 }
 
-/* An edge file: `T 0`, `T 1`, `T end`. */
+/* An edge file: `T 0`, `T 1`, `T end`. It is read by hand, since a long capture has some millions of lines. */
 export function readEdges(text) {
   const line = wire('CEC', '');
   let end = 0;
-  for (const [, at, level] of text.matchAll(/^(\d+) (0|1|end)$/gm)) {
-    end = Number(at);
-    if (level !== 'end') note(line, end, level === '1');
+  for (let at = 0; at < text.length; at++) {
+    let time = 0;
+    const from = at;
+    for (let code = text.charCodeAt(at); code >= 48 && code <= 57; code = text.charCodeAt(++at)) time = time * 10 + code - 48;
+    const level = text.charCodeAt(at + 1);
+    const isLevel = at > from && text.charCodeAt(at) === 32 && (level === 48 || level === 49 || level === 101);
+    const next = text.indexOf('\n', at);
+    at = next < 0 ? text.length : next;
+    if (!isLevel) continue;
+    end = time;
+    if (level !== 101) note(line, end, level === 49);
   }
   return { line, devices: [], pulses: null, end };
 }

@@ -1,8 +1,9 @@
 // The page: data in, selection, search, keys. Its parts are linked: what is selected in one is shown in all.
 
+import { aligned } from './beside.js';
 import { asMermaid, Chart } from './chart.js';
 import { byId, counted, html } from './elements.js';
-import { finder } from './find.js';
+import { finder, makeReady } from './find.js';
 import { addWave, build, isWave } from './model.js';
 import { COMMANDS, drawSweep, help, PANELS } from './panels.js';
 import { acknowledgersOf, slotsOf } from './slots.js';
@@ -23,6 +24,8 @@ const isFailed = row => FAILED.includes(row.cls) || (row.type === 'event' && row
 class App {
   model = build([]);
   texts = [];
+  /* The run that stands beside this one. */
+  other = null;
   /* What the page was made of: its readings, of which one is shown. */
   data = null;
   reading = 0;
@@ -69,9 +72,29 @@ class App {
     if (this.reading !== index) return; // another one was asked for meanwhile
     await this.load(first);
     this.showBanner();
+    if (index === 0) await this.readBeside();
     this.isWaiting = waves.length > 0;
     requestAnimationFrame(() => performance.mark('first picture'));
     if (waves.length > 0) await this.loadWaves(() => read(waves));
+  }
+  /* The run that stands beside this one, and both aligned, which is done once. */
+  besideOf(model) {
+    if (!model.beside) model.beside = aligned(model.rows, this.other.rows);
+    return model.beside;
+  }
+  async readBeside() {
+    const index = this.data ? this.data.readings.findIndex(one => one.beside) : -1;
+    if (index < 0) return;
+    const { texts, readings } = this.data;
+    const read = async place => ({ ...texts[place], text: await inflated(texts[place]) });
+    const wanted = readings[index].texts.filter(place => !texts[place].wave);
+    this.other = build(await Promise.all(wanted.map(read)));
+    this.model.isBeside = true;
+    this.panel = 'beside';
+    const { pairs } = this.besideOf(this.model);
+    const first = pairs.find(([one, other]) => one && !other);
+    if (first) this.select(first[0], { keepsPanel: true });
+    this.drawPanel();
   }
   /* Of a sweep the page has the run of the first instant of each stretch. */
   readingOf(instant) {
@@ -157,6 +180,7 @@ class App {
     this.filter();
     this.showWave();
     const rowsAreThere = model.rows.length > 0;
+    setTimeout(() => makeReady(model), 100);
     const failure = model.tests.find(test => !test.holds);
     if (failure) this.showTest(failure);
     else this.drawPanel();

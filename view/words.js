@@ -35,6 +35,21 @@ const ENDINGS = {
   joined: 'The capture may have begun in the middle of a frame.',
 };
 
+const VERDICTS_IN_WORDS = {
+  __proto__: null,
+  ack: 'Each block was acknowledged.',
+  ok: 'It went to all, and nobody refused it.',
+  nack: 'Nobody acknowledged a block.',
+  refused: 'It went to all, and somebody refused it.',
+  free: 'Nobody answered the poll: its sender takes the address.',
+  taken: 'Somebody acknowledged the poll: the address is taken.',
+};
+/* What the verdict of a round means. */
+export function verdictInWords({ o, verdict, cls, remarks }) {
+  const words = VERDICTS_IN_WORDS[verdict] || VERDICTS_IN_WORDS[cls] || ENDINGS[o.ending] || verdict;
+  return remarks.length > 0 ? `${words} ⚠ ${remarks.map(remark => remark.text).join('; ')}` : words;
+}
+
 /* What a round says, in a sentence. */
 export function meaningOf(round, model) {
   const { cls } = round.row;
