@@ -38,7 +38,7 @@ pub fn same_line()
     ensures { SameLine }
 {}
 
-/// While a winner is still sending, the read fall of a slot is not after its own and at most 350 before it.
+/// Where the pulses are sparse and a winner is still sending, the read fall of a slot is not after its own and at most 350 before it.
 pub fn winners_window()
     ensures { WinnersWindow }
 {}

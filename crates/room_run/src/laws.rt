@@ -57,7 +57,7 @@ pub fn edges_are_the_line()
     ensures { EdgesAreTheLine }
 {}
 
-/// A run ends: it has at most `end / 7200 + 4096` rounds.
+/// A run ends: it has at most one round for each 7,200 microseconds before the script's end, and one more for each pulse and pull.
 pub fn runs_are_short()
     ensures { RunsAreShort }
 {}
@@ -73,7 +73,8 @@ pub fn texts_have_one_run()
     ensures { TextsHaveOneRun }
 {}
 
-/// The last round of a run closes at most 458,461 microseconds after the script's end.
+/// The last round of a run closes by each instant that is the longest round without pulls after the script's end, or later, and by
+/// which each pull is over that began until then.
 pub fn runs_close_soon()
     ensures { RunsCloseSoon }
 {}
