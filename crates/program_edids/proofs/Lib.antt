@@ -1,3 +1,4 @@
 pub mod ShownLemmas
 pub mod EdidLemmas
 pub mod SoundLemmas
+pub mod FaultLemmas

@@ -1,5 +1,5 @@
 -- What is given, written and found of an EDID in a port of an amplifier, of one that counts its extensions otherwise, and of two.
-use Rattle.std.proofs.Common.{◌≡◌, ◌∙◌, sym, subst, ℕ, ◌≤◌, arith, List, ◌∷◌, ◌++◌, length, get_or, take, drop, length-append, Option, Result, Ok, Err, IfOk, true}
+use Rattle.std.proofs.Common.{◌≡◌, ◌∙◌, sym, subst, ℕ, ◌≤◌, arith, List, ◌∷◌, length, get_or, take, drop, length-append, Option, Result, Ok, Err, IfOk, true}
 use Rattle.std.proofs.lemmas.List.{length-take-le}
 use Rattle.edid_core.specs.Bytes.{edid_bytes}
 use Rattle.edid_core.specs.declared.edid.Edid.{Edid}

@@ -24,7 +24,12 @@ use Rattle.edid_ddc.specs.Readout.{readout_text}
 use Rattle.edid_dumps.specs.Nth.{nth_in_dump}
 use Rattle.edid_base.specs.Base.{base_bytes}
 use Rattle.edid_base.specs.declared.base.Base.{Base}
+use Rattle.conversion_calls.specs.EdidText.{IsNoText}
 use Rattle.edid_texts.specs.Lines.{edid_text}
+use Rattle.edid_texts.specs.declared.parse.TextError.{TextError}
+use Rattle.edid_texts.specs.declared.parse.TextError.TheVariants as texts
+use Rattle.program_edids.specs.declared.edid_fault.EdidFault.{EdidFault}
+use Rattle.program_edids.specs.declared.edid_fault.EdidFault.TheVariants as faults
 use Rattle.edid_merge.specs.Merge.{IsAnswer}
 use Rattle.edid_merge.specs.Speakers.{IsSpoken}
 use Rattle.edid_as_source.specs.Count.{counted, first_count, with_count}
@@ -172,6 +177,19 @@ IsRead sources.Words input given = (e : Edid) × (edid_text e ≡ canonical_text
 IsRead (sources.Pair true table) input given =
     (display : List ℕ) × (own : List ℕ) × (nth_in_dump 1 input ≡ Ok display) × (nth_in_dump 2 input ≡ Ok own) × IsAnswer table display own given
 IsRead (sources.Pair false table) input given = IsAnswer table (display_half input) (own_half input) given
+
+-- the fault of the program by that of a text
+abbrev pub IsFaultOf : TextError → EdidFault → Type 0
+IsFaultOf (texts.Syntax line) fault = fault ≡ faults.Syntax line
+IsFaultOf (texts.Field line word) fault = fault ≡ faults.Field line word
+IsFaultOf texts.Memory fault = Unit {0}
+
+-- why a text is not read: it is no EDID's, for its first line at fault, or there was no memory
+abbrev pub IsTextFault : List ℕ → EdidFault → Type 0
+IsTextFault text (faults.Syntax line) = IsNoText text (texts.Syntax line)
+IsTextFault text (faults.Field line word) = IsNoText text (texts.Field line word)
+IsTextFault text (faults.Memory cause) = Unit {0}
+IsTextFault text fault = ⊥
 
 -- The count that byte 126 keeps: a text has none, so that it is 1 there where the override stands.
 abbrev pub kept_count : Source → List ℕ → ℕ

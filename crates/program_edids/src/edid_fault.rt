@@ -3,7 +3,6 @@ use conversion_calls::{EdidToTextError, PassOnError};
 use edid_core::EdidError;
 use edid_dump::DumpError;
 use edid_merge::{MergeError, SpeakersError};
-use edid_texts::TextError;
 use std::alloc::AllocError;
 use text_core::WriteFault;
 use thiserror::Error;
@@ -46,16 +45,6 @@ impl From<EdidToTextError> for EdidFault {
         match error {
             EdidToTextError::Edid(error) => EdidFault::Edid(error),
             EdidToTextError::Write(count) => EdidFault::Write(WriteFault { count }),
-        }
-    }
-}
-
-impl From<TextError> for EdidFault {
-    fn from(error: TextError) -> EdidFault {
-        match error {
-            TextError::Syntax(line) => EdidFault::Syntax(line),
-            TextError::Field { line, word } => EdidFault::Field { line, word },
-            TextError::Memory => EdidFault::Memory(AllocError),
         }
     }
 }

@@ -1,10 +1,10 @@
 //! The bytes that an input gives, of which an EDID is read.
-ghost use Rattle.std.specs.Prelude.{◌≡◌, IfOk, false, true};
+ghost use Rattle.std.specs.Prelude.{◌≡◌, IfErr, IfOk, false, true};
 ghost use Rattle.edid_merge.specs.Merge.{IsAnswer};
 ghost use Rattle.edid_core.specs.Bytes.{edid_bytes};
 ghost use Rattle.edid_core.specs.declared.edid.Edid.{Edid as EdidValue};
 ghost use Rattle.edid_texts.specs.Lines.{edid_text};
-ghost use Rattle.program_edids.specs.Edids.{IsRead, display_half, kept_count, own_half};
+ghost use Rattle.program_edids.specs.Edids.{IsFaultOf, IsRead, IsTextFault, display_half, kept_count, own_half};
 
 use crate::edid_fault::EdidFault;
 use cli_words::Source;
@@ -15,7 +15,7 @@ use edid_dumps::nth_dump_bytes;
 use edid_merge::{Table, merge_bytes};
 use edid_spelling::{canonical_text, in_words};
 use edid_texts::{TextError, parse_text};
-use std::alloc::Global;
+use std::alloc::{AllocError, Global};
 use text_core::byte_at;
 
 /// Where a base block counts its extensions.
@@ -63,14 +63,29 @@ fn given_of_dump(alloc: Global, nth: u64, text: &[u8]) -> Result<Vec<u8>, EdidFa
     }
 }
 
+// The fault of a text that is no EDID's.
+fn fault_of(error: TextError) -> EdidFault
+    ensures { IsFaultOf error result }
+{
+    match error {
+        TextError::Syntax(line) => EdidFault::Syntax(line),
+        TextError::Field { line, word } => EdidFault::Field { line, word },
+        TextError::Memory => EdidFault::Memory(AllocError),
+    }
+}
+
 // The bytes of the EDID of a text. Each EDID has one text: a line more is at fault.
 #[inline(never)]
 fn given_of_text(alloc: Global, text: &[u8]) -> Result<Vec<u8>, EdidFault>
-    ensures { IfOk result (λ given. IsRead Source.Text text.now given.items) }
+    ensures ok { IfOk result (λ given. IsRead Source.Text text.now given.items) }
+    ensures refused { IfErr result (λ fault. IsTextFault text.now fault) }
 {
     match &parse_text(alloc, text) {
-        Ok(edid) => Ok(edid_to_bytes(edid).as_slice().to_vec(alloc)?),
-        Err(error) => Err(EdidFault::from(*error)),
+        Err(error) => Err(fault_of(*error)),
+        Ok(edid) => match edid_to_bytes(edid).as_slice().to_vec(alloc) {
+            Ok(bytes) => Ok(bytes),
+            Err(error) => Err(EdidFault::Memory(error)),
+        },
     }
 }
 
@@ -116,7 +131,7 @@ fn bytes_of_words(
 {
     match &parse_text(alloc, canonical) {
         Ok(edid) => Ok(edid_to_bytes(edid).as_slice().to_vec(alloc)?),
-        Err(error) => Err(EdidFault::from(among_all(text, in_words_of(plain, *error)))),
+        Err(error) => Err(fault_of(among_all(text, in_words_of(plain, *error)))),
     }
 }
 

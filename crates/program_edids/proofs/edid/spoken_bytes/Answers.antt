@@ -1,4 +1,4 @@
-use Rattle.std.proofs.Common.{◌≡◌, ◌∙◌}
+use Rattle.std.proofs.Common.{◌∙◌}
 use Rattle.program_edids.proofs.SoundLemmas.{spoken_made}
 use Rattle.program_edids.proofs.edid.spoken_bytes.Goals as goal
 
