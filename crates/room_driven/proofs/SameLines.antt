@@ -20,11 +20,11 @@ use Rattle.room_driven.specs.declared.wires.Wires.TheVariants.{Plain, Named}
 abbrev levels : ℕ → List (List Stretch) → List Bool
 levels t wires = map (λ ss. line_of ss t) wires
 
-first_level : (a b : Bool) (as bs : List Bool) → (a ∷ as) ≡ (b ∷ bs) → a ≡ b
-first_level a b as bs e = cc
+first_level : (a b : Bool) (cs bs : List Bool) → (a ∷ cs) ≡ (b ∷ bs) → a ≡ b
+first_level a b cs bs e = cc
 
-other_levels : (a b : Bool) (as bs : List Bool) → (a ∷ as) ≡ (b ∷ bs) → as ≡ bs
-other_levels a b as bs e = cc
+other_levels : (a b : Bool) (cs bs : List Bool) → (a ∷ cs) ≡ (b ∷ bs) → cs ≡ bs
+other_levels a b cs bs e = cc
 
 -- a wire turns by what it is and was
 same_turn : (t : ℕ) (v w : List Stretch) → line_of v t ≡ line_of w t → line_of v (t - 1) ≡ line_of w (t - 1) → turns (line_of v) t ≡ turns (line_of w) t

@@ -22,7 +22,7 @@ add_round-requires-clause-round g c =
     subst (λ ss. IsBegunRound ss c.args.begin c.pulls.result.now c.args.outcome.now) (sym (c.deref.ensures.0 ∙ c.seats-seats.ensures))
     (subst (λ ps. IsBegunRound (seats_of c.args.net.now c.args.begin) c.args.begin ps c.args.outcome.now) (sym c.pulls.ensures.pulls) (record {
       order = subst IsWave c.pulls.ensures.pulls c.pulls.ensures.order;
-      wave = subst IsWave c.as_slice.ensures.stretches c.as_slice.ensures.wave;
+      wave = subst IsWave c.as_slice-stretches.ensures.stretches c.as_slice-stretches.ensures.wave;
       round = c.requires.round;
       begun = begun c.args.net.now c.args.begin c.requires.begins;
     }))

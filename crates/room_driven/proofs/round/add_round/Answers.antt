@@ -6,6 +6,6 @@ use Rattle.room_driven.proofs.round.add_round.Goals as goal
 pub returns : goal.returns
 returns g c =
     subst (λ (text : List ℕ). Adds c.args.out.now c.add_round_wires.new.out text)
-    (drives_told c.args.wires c.args.seats.now c.args.begin c.args.pulses.now c.args.outcome.now c.put_drives.new.drives.items c.begun_within.result.now
-    c.put_drives.ensures c.begun_within.ensures.ruled c.requires.round)
+    (drives_told c.args.wires c.args.seats.now c.args.begin c.args.pulses.now c.args.outcome.now c.put_drives.new.drives.items c.begun_within-begun.result.now
+    c.put_drives.ensures c.begun_within-begun.ensures.ruled c.requires.round)
     c.add_round_wires.ensures
