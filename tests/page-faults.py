@@ -66,7 +66,7 @@ PLANTS = [
     ("the number of an operand", "panels.js", "`operand ${i - 1}`", "`operand ${i}`", ROOM),
     ("the free time before a round", "slots.js", "wave.line.changes[i - 1] : null", "wave.line.changes[i - 2] : null", ROOM),
     ("how many rounds there are", "view.js", "counted(rounds.length, 'round')", "counted(rounds.length + 1, 'round')", ROOM),
-    ("where a round is on the strip", "strip.js", "const from = this.x(row.at);\n      const to", "const from = this.x(row.at + 2e5);\n      const to", ROOM),
+    ("where a round is on the strip", "strip.js", "const from = row.at * scale;", "const from = (row.at + 2e5) * scale;", ROOM),
     ("who sends to whom, in a block", "panels.js", "`${addressInWords(byte[0])} to ${isBroadcast",
      "`${addressInWords(byte[1])} to ${isBroadcast", ROOM),
 ]

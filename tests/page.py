@@ -952,6 +952,11 @@ def live_page_runs(t, b):
         b.js("(area => { const at = area.value.indexOf('at 1100000'); area.setSelectionRange(at, at); area.click(); })(hdminet.live.area)")
         t.same("a click on a line selects its row", b.js("testing.app.selected.text"), "press p1 play")
         t.same("and marks it", b.js("document.querySelector('#source .gutter .is').textContent"), str(number))
+        made = b.js("testing.app.searchFor('from:p1'), hdminet.live.asTest()")
+        report = program(made, "check").splitlines()
+        t.same("a test of the rounds shown holds", [made.count("\nexpect from "), sum(line.startswith("ok ") for line in report)],
+               [b.js("testing.app.chart.shown.filter(row => row.type === 'round').length")] * 2)
+        b.js("testing.app.searchFor('')")
         # An answer that comes after a later one is not shown
         b.js("""(() => { const plain = window.fetch; let first = true;
           window.fetch = async (...all) => { const slow = first; first = false; const answer = await plain(...all);
@@ -1428,6 +1433,42 @@ def long_runs_are_fast(t, b):
     t.holds("the document has few nodes", b.js("document.querySelectorAll('*').length") < 3000)
     t.same("the wave is there", b.js("!!hdminet.app.model.wave && hdminet.app.model.faults.length === 0"), True)
     print(f"page: {rounds} rounds: the first picture and a step of zoom took {best[2]}")
+    dense_runs_are_fast(t, b, work)
+
+
+def dense_runs_are_fast(t, b, work):
+    """100,000 rounds with their audit are read and drawn in 5 s, a search takes 100 ms, bad starts one after another are a row; on
+    a machine as above."""
+    b.open(BARE)
+    slower = max(b.js(work) / 200, 1)
+    load_dense = """(async () => {
+      const lines = [];
+      for (let i = 0; i < 100000; i++) {
+        const begin = 60000 * i;
+        const isBad = i % 100 >= 90;
+        const line = isBad ? `${begin} ${begin + 400} bad-start -` : `${begin} ${begin + 51150} complete 0>4 give-osd-name ack`;
+        lines.push(JSON.stringify(isBad
+          ? { line, type: 'reading', begin, close: begin + 400, ending: 'bad-start', bits: null }
+          : { line, type: 'reading', begin, close: begin + 51150, ending: 'complete', frame: '0>4 give-osd-name', initiator: '0',
+              destination: '4', bytes: '0446', verdict: 'ack' }));
+        if (i % 20 === 0) lines.push(JSON.stringify({ line: `  free ${i} of 12000`, type: 'remark', remark: 'free', section: '9.1' }));
+      }
+      const text = lines.join('\\n');
+      const from = performance.now();
+      await hdminet.app.load([{ name: 'dense', text }]);
+      await new Promise(done => requestAnimationFrame(() => setTimeout(done)));
+      return performance.now() - from; })()"""
+    loaded = b.js(load_dense)
+    t.holds("100,000 rounds are read and drawn", loaded < 5000 * slower, f"{loaded:.0f} ms")
+    t.same("bad starts are folded", b.js("hdminet.app.chart.shown.length"), 91000)
+    t.holds("what is to look at is grouped", b.js("document.querySelectorAll('#panel details').length") in (2, 3))
+    time.sleep(1.5 * min(slower, 4))
+    found = []
+    for _ in range(4):
+        found.append(b.js("['give', 'from:0', 'op:46 not give', 't:3000..3100', '51150', ''].map(words => { const from = performance.now();"
+                          " hdminet.app.searchFor(words); return performance.now() - from; }).sort((a, b) => a - b)[3]"))
+    t.holds("a search in 100,000 rounds", min(found) < 100 * slower, found)
+    print(f"page: 100,000 rounds took {loaded:.0f} ms, a search {min(found):.0f} ms, some work {slower * 200:.0f} ms where 200 is usual")
 
 
 def sources_are_plain(t, _):

@@ -135,9 +135,9 @@ class Run:
         last = [line for line in lines if line.startswith("end ")][-1]
         told = [i for i, row in enumerate(self.rows) if row["type"] in ("round", "reading", "event")]
         starts = [self.rows[i].get("begin", self.rows[i].get("at")) for i in told]
-        # What is so after a row is so before the next one begins; of events at one instant the last one has it.
-        ends = [max(after, begin + 1) if self.rows[i]["type"] == "event" else after
-                for i, begin, after in zip(told, starts, [*starts[1:], int(last.split(" ")[1])])]
+        # What is so after a row is so before the next one begins; of rows that end at one instant the last one has it.
+        closes = [self.rows[i].get("close", self.rows[i].get("at")) for i in told]
+        ends = [max(after, close + 1) for close, after in zip(closes, [*starts[1:], int(last.split(" ")[1])])]
         asked = [line for line in lines if not line.startswith("end ")]
         for end in ends:
             asked += [f"run to {end}", *(f"show {name}" for name in self.devices)]
