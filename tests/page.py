@@ -1351,10 +1351,16 @@ def pages_are_made(t, b):
     subprocess.run([os.path.join(TOP, "tools/page"), "-o", out], input=example("wrong-film.test").encode(), check=True)
     b.open(out)
     t.same("a test on standard input is run", b.js("[hdminet.app.model.rounds.length, hdminet.app.model.tests.length]"), [6, 3])
-    done = subprocess.run([os.path.join(TOP, "tools/page"), os.path.join(EXAMPLES, "first-path.trace"), "-o", missing],
+    done = subprocess.run([os.path.join(TOP, "tools/page"), written("words.txt", "4>f standby?\n"), "-o", missing],
                           capture_output=True, check=False)
-    t.same("a trace is nothing to look at", [done.returncode, os.path.exists(missing), b"is no room" in done.stderr],
-           [1, False, True])
+    t.same("a text of no kind is nothing to look at", [done.returncode, os.path.exists(missing), b"is no room" in done.stderr], [1, False, True])
+    for name, text in [("plain.trace", example("first-path.trace")), ("plain.readings", example("capture.readings")),
+                       ("plain.report", example("wrong-film.failures"))]:
+        show(b, written(name, text))
+        found = b.js("(m => [m.faults, m.rounds.length > 0 ? m.rounds.map(o => o.line) : m.tests.map(test => test.line)])"
+                     "(testing.app.model)")
+        lines = [line for line in text.splitlines() if re.match(r"\d+ \d+ [a-z]" if "report" not in name else "ok|not ok", line)]
+        t.same(f"{name} is taken", found, [[], lines])
     out = os.path.join(ROOM, "looked.html")
     opened = os.path.join(ROOM, "opened")
     opener = written("opener", f'#!/bin/sh\nprintf %s "$1" > {opened}\n')
