@@ -111,7 +111,8 @@ window.testing = {
     return {
       type: row.type, at: row.at, time: texts(group, '.time').join(), label: texts(group, '.label').join(),
       verdict: texts(group, '.verdict').join(), notes: texts(group, '.note'), warnings: texts(group, '.warn'),
-      titles: texts(group, '.lost title'), claims,
+      titles: texts(group, '.lost title'), claims, about: texts(group, 'title.about').join(),
+      verdictTitle: texts(group, 'g g > title').join(),
       name: group.getAttribute('aria-label'), heads: [...document.querySelectorAll('#heads g')].map(head => texts(head, 'text')),
       hints: texts(document, '#heads title'), title: texts(content, 'h2').join(), marks: this.drawn('', 0, row), ...parts,
     };
@@ -623,6 +624,7 @@ def round_is_shown(t, what, got, page):
     t.same(f"{what}: verdict", got["verdict"], verdict + (f"⚠ {len(remarks)}" if remarks else ""))
     answered = [request for request, answer in run.answers() if answer is one]
     delay = [f"answers in {page_values.duration(one['begin'] - request['close'])}" for request in answered]
+    t.same(f"{what}: tooltips", [got["about"], got["verdictTitle"]], [page.sentence(), page.verdict_in_words()])
     t.same(f"{what}: attempt", got["notes"], [f"attempt {attempt}"] if attempt and attempt > 1 else delay)
     t.same(f"{what}: out", [got["titles"], [text for text in got["warnings"] if "out" in text]],
            [[page.why(out) for out in page.losers()], [f"out @{out['slot']}" for out in page.losers()]])

@@ -18,6 +18,14 @@ ENDINGS = {
     "open": "The capture ends before this does.",
     "joined": "The capture may have begun in the middle of a frame.",
 }
+VERDICTS = {
+    "ack": "Each block was acknowledged.",
+    "ok": "It went to all, and nobody refused it.",
+    "nack": "Nobody acknowledged a block.",
+    "refused": "It went to all, and somebody refused it.",
+    "free": "Nobody answered the poll: its sender takes the address.",
+    "taken": "Somebody acknowledged the poll: the address is taken.",
+}
 # docs/formats.md, causes of a refused event
 CAUSES = {
     "port-range": "the parent has no such port",
@@ -320,6 +328,12 @@ class Page:
         if is_poll(one):
             said += " Nobody answers: it takes it." if one["verdict"] == "nack" else " Somebody acknowledges: it is taken."
         return said
+
+    def verdict_in_words(self):
+        one = self.row
+        words = VERDICTS[stopped(one) or verdict(one)] if stopped(one) or verdict(one) in VERDICTS else ENDINGS[one["ending"]]
+        remarks = "; ".join(remark["line"].strip() for remark in self.run.remarks(one))
+        return f"{words} ⚠ {remarks}" if remarks else words
 
     def parties(self):
         one = self.row
