@@ -14,7 +14,7 @@ import tempfile
 
 TOP = os.path.dirname(os.path.dirname(os.path.realpath(__file__)))
 ROOM, CAPTURE, WORDS, REPORT = "values_of_retries", "values_of_a_capture", "words_are_the_standards", "reports_are_shown"
-EVENING, LOOSE = "values_of_an_evening", "values_of_a_loose_device"
+EVENING, LOOSE, SEARCH = "values_of_an_evening", "values_of_a_loose_device", "searches_find"
 
 # What is wrong, the file of view/, what stands there and what is planted, and the test that is to fail.
 PLANTS = [
@@ -66,9 +66,19 @@ PLANTS = [
     ("the number of an operand", "panels.js", "`operand ${i - 1}`", "`operand ${i}`", ROOM),
     ("the free time before a round", "slots.js", "wave.line.changes[i - 1] : null", "wave.line.changes[i - 2] : null", ROOM),
     ("how many rounds there are", "view.js", "counted(rounds.length, 'round')", "counted(rounds.length + 1, 'round')", ROOM),
-    ("where a round is on the strip", "strip.js", "const from = this.x(row.at);\n      const to", "const from = this.x(row.at + 2e5);\n      const to", ROOM),
+    ("where a round is on the strip", "strip.js", "const from = row.at * scale;", "const from = (row.at + 2e5) * scale;", ROOM),
     ("who sends to whom, in a block", "panels.js", "`${addressInWords(byte[0])} to ${isBroadcast",
      "`${addressInWords(byte[1])} to ${isBroadcast", ROOM),
+    ("which frame answers which", "answers.js", "71: '7a'", "71: '7e'", ROOM),
+    ("the delay of an answer", "answers.js", "answer.at - answer.answers.until", "answer.at - answer.answers.at", ROOM),
+    ("whom a search for a receiver finds", "find.js", "isOneOf(model, row.to, name)", "isOneOf(model, row.from, name)", SEARCH),
+    ("the span of a search", "find.js", "(row.until ?? row.at) >= least", "row.at >= least", SEARCH),
+    ("the active source of the room", "room.js", "'physical_address') === active)", "'physical_address') !== active)", LOOSE),
+    ("the state before the row", "room.js", "recordsAt(lane, instant)])", "recordsAt(lane, instant - 1)])", LOOSE),
+    ("the words of a verdict", "words.js", "nack: 'Nobody acknowledged a block.'", "nack: 'Somebody refused a block.'", ROOM),
+    ("the window of an expectation that is copied", "words.js", "`expect from ${begin} to ${close} ${",
+     "`expect from ${begin} to ${close - 1} ${", "live_page_runs"),
+    ("which run is beside", "beside.js", "const mark = !one ? '+'", "const mark = !one ? '−'", "runs_stand_beside"),
 ]
 
 
@@ -87,7 +97,7 @@ def copy(room):
     for name in ("view", "tests"):
         shutil.copytree(os.path.join(TOP, name), os.path.join(room, name), symlinks=True)
     os.mkdir(os.path.join(room, "tools"))
-    for name in ("page", "look", "example-pages"):
+    for name in ("page", "page-live", "look", "example-pages"):
         shutil.copy(os.path.join(TOP, "tools", name), os.path.join(room, "tools", name))
     os.symlink(os.path.join(TOP, "examples"), os.path.join(room, "examples"))
 

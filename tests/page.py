@@ -111,7 +111,8 @@ window.testing = {
     return {
       type: row.type, at: row.at, time: texts(group, '.time').join(), label: texts(group, '.label').join(),
       verdict: texts(group, '.verdict').join(), notes: texts(group, '.note'), warnings: texts(group, '.warn'),
-      titles: texts(group, '.lost title'), claims,
+      titles: texts(group, '.lost title'), claims, about: texts(group, 'title.about').join(),
+      verdictTitle: texts(group, 'g g > title').join(),
       name: group.getAttribute('aria-label'), heads: [...document.querySelectorAll('#heads g')].map(head => texts(head, 'text')),
       hints: texts(document, '#heads title'), title: texts(content, 'h2').join(), marks: this.drawn('', 0, row), ...parts,
     };
@@ -623,6 +624,7 @@ def round_is_shown(t, what, got, page):
     t.same(f"{what}: verdict", got["verdict"], verdict + (f"⚠ {len(remarks)}" if remarks else ""))
     answered = [request for request, answer in run.answers() if answer is one]
     delay = [f"answers in {page_values.duration(one['begin'] - request['close'])}" for request in answered]
+    t.same(f"{what}: tooltips", [got["about"], got["verdictTitle"]], [page.sentence(), page.verdict_in_words()])
     t.same(f"{what}: attempt", got["notes"], [f"attempt {attempt}"] if attempt and attempt > 1 else delay)
     t.same(f"{what}: out", [got["titles"], [text for text in got["warnings"] if "out" in text]],
            [[page.why(out) for out in page.losers()], [f"out @{out['slot']}" for out in page.losers()]])
@@ -952,6 +954,11 @@ def live_page_runs(t, b):
         b.js("(area => { const at = area.value.indexOf('at 1100000'); area.setSelectionRange(at, at); area.click(); })(hdminet.live.area)")
         t.same("a click on a line selects its row", b.js("testing.app.selected.text"), "press p1 play")
         t.same("and marks it", b.js("document.querySelector('#source .gutter .is').textContent"), str(number))
+        made = b.js("testing.app.searchFor('from:p1'), hdminet.live.asTest()")
+        report = program(made, "check").splitlines()
+        t.same("a test of the rounds shown holds", [made.count("\nexpect from "), sum(line.startswith("ok ") for line in report)],
+               [b.js("testing.app.chart.shown.filter(row => row.type === 'round').length")] * 2)
+        b.js("testing.app.searchFor('')")
         # An answer that comes after a later one is not shown
         b.js("""(() => { const plain = window.fetch; let first = true;
           window.fetch = async (...all) => { const slow = first; first = false; const answer = await plain(...all);
@@ -1346,10 +1353,16 @@ def pages_are_made(t, b):
     subprocess.run([os.path.join(TOP, "tools/page"), "-o", out], input=example("wrong-film.test").encode(), check=True)
     b.open(out)
     t.same("a test on standard input is run", b.js("[hdminet.app.model.rounds.length, hdminet.app.model.tests.length]"), [6, 3])
-    done = subprocess.run([os.path.join(TOP, "tools/page"), os.path.join(EXAMPLES, "first-path.trace"), "-o", missing],
+    done = subprocess.run([os.path.join(TOP, "tools/page"), written("words.txt", "4>f standby?\n"), "-o", missing],
                           capture_output=True, check=False)
-    t.same("a trace is nothing to look at", [done.returncode, os.path.exists(missing), b"is no room" in done.stderr],
-           [1, False, True])
+    t.same("a text of no kind is nothing to look at", [done.returncode, os.path.exists(missing), b"is no room" in done.stderr], [1, False, True])
+    for name, text in [("plain.trace", example("first-path.trace")), ("plain.readings", example("capture.readings")),
+                       ("plain.report", example("wrong-film.failures"))]:
+        show(b, written(name, text))
+        found = b.js("(m => [m.faults, m.rounds.length > 0 ? m.rounds.map(o => o.line) : m.tests.map(test => test.line)])"
+                     "(testing.app.model)")
+        lines = [line for line in text.splitlines() if re.match(r"\d+ \d+ [a-z]" if "report" not in name else "ok|not ok", line)]
+        t.same(f"{name} is taken", found, [[], lines])
     out = os.path.join(ROOM, "looked.html")
     opened = os.path.join(ROOM, "opened")
     opener = written("opener", f'#!/bin/sh\nprintf %s "$1" > {opened}\n')
@@ -1428,6 +1441,42 @@ def long_runs_are_fast(t, b):
     t.holds("the document has few nodes", b.js("document.querySelectorAll('*').length") < 3000)
     t.same("the wave is there", b.js("!!hdminet.app.model.wave && hdminet.app.model.faults.length === 0"), True)
     print(f"page: {rounds} rounds: the first picture and a step of zoom took {best[2]}")
+    dense_runs_are_fast(t, b, work)
+
+
+def dense_runs_are_fast(t, b, work):
+    """100,000 rounds with their audit are read and drawn in 5 s, a search takes 100 ms, bad starts one after another are a row; on
+    a machine as above."""
+    b.open(BARE)
+    slower = max(b.js(work) / 200, 1)
+    load_dense = """(async () => {
+      const lines = [];
+      for (let i = 0; i < 100000; i++) {
+        const begin = 60000 * i;
+        const isBad = i % 100 >= 90;
+        const line = isBad ? `${begin} ${begin + 400} bad-start -` : `${begin} ${begin + 51150} complete 0>4 give-osd-name ack`;
+        lines.push(JSON.stringify(isBad
+          ? { line, type: 'reading', begin, close: begin + 400, ending: 'bad-start', bits: null }
+          : { line, type: 'reading', begin, close: begin + 51150, ending: 'complete', frame: '0>4 give-osd-name', initiator: '0',
+              destination: '4', bytes: '0446', verdict: 'ack' }));
+        if (i % 20 === 0) lines.push(JSON.stringify({ line: `  free ${i} of 12000`, type: 'remark', remark: 'free', section: '9.1' }));
+      }
+      const text = lines.join('\\n');
+      const from = performance.now();
+      await hdminet.app.load([{ name: 'dense', text }]);
+      await new Promise(done => requestAnimationFrame(() => setTimeout(done)));
+      return performance.now() - from; })()"""
+    loaded = b.js(load_dense)
+    t.holds("100,000 rounds are read and drawn", loaded < 5000 * slower, f"{loaded:.0f} ms")
+    t.same("bad starts are folded", b.js("hdminet.app.chart.shown.length"), 91000)
+    t.holds("what is to look at is grouped", b.js("document.querySelectorAll('#panel details').length") in (2, 3))
+    time.sleep(1.5 * min(slower, 4))
+    found = []
+    for _ in range(4):
+        found.append(b.js("['give', 'from:0', 'op:46 not give', 't:3000..3100', '51150', ''].map(words => { const from = performance.now();"
+                          " hdminet.app.searchFor(words); return performance.now() - from; }).sort((a, b) => a - b)[3]"))
+    t.holds("a search in 100,000 rounds", min(found) < 100 * slower, found)
+    print(f"page: 100,000 rounds took {loaded:.0f} ms, a search {min(found):.0f} ms, some work {slower * 200:.0f} ms where 200 is usual")
 
 
 def sources_are_plain(t, _):

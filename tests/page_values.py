@@ -18,6 +18,14 @@ ENDINGS = {
     "open": "The capture ends before this does.",
     "joined": "The capture may have begun in the middle of a frame.",
 }
+VERDICTS = {
+    "ack": "Each block was acknowledged.",
+    "ok": "It went to all, and nobody refused it.",
+    "nack": "Nobody acknowledged a block.",
+    "refused": "It went to all, and somebody refused it.",
+    "free": "Nobody answered the poll: its sender takes the address.",
+    "taken": "Somebody acknowledged the poll: the address is taken.",
+}
 # docs/formats.md, causes of a refused event
 CAUSES = {
     "port-range": "the parent has no such port",
@@ -135,9 +143,9 @@ class Run:
         last = [line for line in lines if line.startswith("end ")][-1]
         told = [i for i, row in enumerate(self.rows) if row["type"] in ("round", "reading", "event")]
         starts = [self.rows[i].get("begin", self.rows[i].get("at")) for i in told]
-        # What is so after a row is so before the next one begins; of events at one instant the last one has it.
-        ends = [max(after, begin + 1) if self.rows[i]["type"] == "event" else after
-                for i, begin, after in zip(told, starts, [*starts[1:], int(last.split(" ")[1])])]
+        # What is so after a row is so before the next one begins; of rows that end at one instant the last one has it.
+        closes = [self.rows[i].get("close", self.rows[i].get("at")) for i in told]
+        ends = [max(after, close + 1) for close, after in zip(closes, [*starts[1:], int(last.split(" ")[1])])]
         asked = [line for line in lines if not line.startswith("end ")]
         for end in ends:
             asked += [f"run to {end}", *(f"show {name}" for name in self.devices)]
@@ -320,6 +328,12 @@ class Page:
         if is_poll(one):
             said += " Nobody answers: it takes it." if one["verdict"] == "nack" else " Somebody acknowledges: it is taken."
         return said
+
+    def verdict_in_words(self):
+        one = self.row
+        words = VERDICTS[stopped(one) or verdict(one)] if stopped(one) or verdict(one) in VERDICTS else ENDINGS[one["ending"]]
+        remarks = "; ".join(remark["line"].strip() for remark in self.run.remarks(one))
+        return f"{words} ⚠ {remarks}" if remarks else words
 
     def parties(self):
         one = self.row

@@ -5,9 +5,11 @@ import { byId, html, link } from './elements.js';
 import { nearest } from './strip.js';
 import { asText } from './texts.js';
 import { app } from './view.js';
+import { expectOf } from './words.js';
 
 const PAUSE = 120; // milliseconds after a key until the text is run
 const LINE = 18; // height of a line, in pixels
+const MOST_EXPECTED = 50; // rounds
 const FLAGS = ['signal', 'glitch', 'margin'];
 
 const area = html('textarea', { id: 'text', spellcheck: 'false', wrap: 'off', 'aria-label': 'The text that is run' });
@@ -17,7 +19,19 @@ const said = html('span', { class: 'dim' });
 const onDisk = html('p', { class: 'disk', hidden: '' });
 const fields = html('div', { class: 'flags', hidden: '' });
 const page = html('div', { class: 'sheet' }, gutter, area);
-const bar = html('div', { class: 'bar' }, html('b', {}, 'Text'), said);
+
+/* The text with an expectation for each round that is shown: a test that holds as it stands. */
+function asTest() {
+  const lines = area.value.replace(/\n$/, '').split('\n');
+  const rounds = app.chart.shown.filter(row => row.type === 'round').slice(0, MOST_EXPECTED);
+  const expectations = rounds.map(row => expectOf(row.o));
+  if (app.model.isCapture) return [...expectations, 'capture', ...lines, ''].join('\n');
+  const end = lines.map(line => line.startsWith('end ')).lastIndexOf(true);
+  return [...lines.slice(0, end), ...expectations, ...lines.slice(end), ''].join('\n');
+}
+
+const copying = link('Copy as .test', () => app.copy(asTest()));
+const bar = html('div', { class: 'bar' }, html('b', {}, 'Text'), said, copying);
 byId('main').prepend(html('section', { id: 'source', 'aria-label': 'Text' }, bar, fields, onDisk, page, fault));
 
 /* What was given by the server last, whether it is a stream of objects, and which line is at fault. */
@@ -156,7 +170,9 @@ area.addEventListener('input', () => {
   runSoon();
 });
 area.addEventListener('click', selectLine);
+app.isReading = true; // until the first run is there
+app.chart.draw();
 new EventSource('events').onmessage = () => take(true);
 take(false);
 /* For tests. */
-window.hdminet.live = { area, run, take, state };
+window.hdminet.live = { area, run, take, state, asTest };

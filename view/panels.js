@@ -8,7 +8,7 @@ import { counted, duration, html, link, seconds, svg, table } from './elements.j
 import { senderOf } from './model.js';
 import { drawRoom, hasRoom } from './room.js';
 import { acknowledgersOf, blockOf, freeBefore, isWithin, lowWindow, partOf, slotsOf, WINDOWS } from './slots.js';
-import { addressInWords, CAUSES, meaningOf, partyName, stateWord } from './words.js';
+import { addressInWords, CAUSES, expectOf, meaningOf, partyName, stateWord } from './words.js';
 
 const MOST_LISTED = 500;
 const MOST_FLAT = 40; // longer lists are grouped by kind
@@ -55,6 +55,7 @@ function drawRound(app, model, row) {
   const links = [
     link('Copy the line', () => app.copy(round.line)),
     round.bytes && link('Copy the bytes', () => app.copy(round.bytes)),
+    link('Copy as expect', () => app.copy(expectOf(round))),
     model.wave && link('See its wave', () => app.wave.showRound(round)),
   ];
   return [
@@ -426,14 +427,20 @@ function drawNotes(app, model) {
   ];
 }
 
-export const COMMANDS = `./hdminet run --json < x.net > x.jsonl                        the rounds, events and states
-./hdminet run --edges --as vcd --drives < x.net > x.vcd       the wave, and who pulls
-x.net                                                         what the events say, and plugs
-./hdminet check --json < x.test > report.jsonl                a report of tests
-./hdminet mon --audit --json < capture.vcd > x.jsonl          a capture and its audit: also capture.vcd itself
-./hdminet dis --meaning < frames.hex > x.meant                what frames mean, by their bytes in hex
-./hdminet edid --meaning < tv.edid > tv.meaning               an EDID
-./hdminet edid --check --explain < tv.edid 2> tv.rules        and the rules that it breaks`;
+/* What the page reads: commands that write it, and what it is. */
+const COMMANDS = [
+  ['./hdminet run --json --room < x.net > x.jsonl', 'the rounds, events and states'],
+  ['./hdminet run --edges --as vcd --drives < x.net > x.vcd', 'the wave, and who pulls'],
+  ['x.net', 'what the events say, and plugs'],
+  ['./hdminet check --json < x.test > report.jsonl', 'a report of tests'],
+  ['./hdminet mon --audit --json < capture.vcd > x.jsonl', 'a capture and its audit: also capture.vcd itself'],
+  ['./hdminet dis --meaning < frames.hex > x.meant', 'what frames mean, by their bytes in hex'],
+  ['./hdminet edid --meaning < tv.edid > tv.meaning', 'an EDID'],
+  ['./hdminet edid --check --explain < tv.edid 2> tv.rules', 'and the rules that it breaks'],
+];
+export const commands = () =>
+  html('table', { class: 'commands' }, COMMANDS.map(([command, what]) => html('tr', {}, html('td', {}, html('code', {}, command)),
+    html('td', {}, what))));
 
 export function help() {
   const marks = [
@@ -469,6 +476,6 @@ export function help() {
   ];
   return [
     html('h2', {}, 'Marks'), table(marks), html('h2', {}, 'Search'), table(searches), html('h2', {}, 'Keys'), table(keys),
-    html('h2', {}, 'Data'), html('pre', {}, COMMANDS),
+    html('h2', {}, 'Data'), commands(),
   ];
 }

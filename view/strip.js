@@ -28,6 +28,8 @@ export class Strip {
   picture = null;
   pressed = null;
   hasMoved = false;
+  isOld = true;
+  due = 0;
 
   constructor(app, canvas) {
     this.app = app;
@@ -65,12 +67,23 @@ export class Strip {
     if (this.hasMoved) this.app.chart.showTime(this.timeAt(event.offsetX));
   }
 
-  draw(isChanged) {
+  /* Draws with the next picture of the browser, however often it was asked for. */
+  drawSoon(isChanged) {
+    this.isOld ||= isChanged;
+    if (this.due) return;
+    this.due = requestAnimationFrame(() => {
+      this.due = 0;
+      this.draw();
+    });
+  }
+  draw() {
     const { canvas, app, width } = this;
     const { chart, model, colours, wave } = app;
     const scale = devicePixelRatio || 1;
     if (!width || !chart) return;
     const pixels = Math.max(Math.round(width * scale), 1);
+    const isChanged = this.isOld;
+    this.isOld = false;
     if (isChanged || !this.picture || this.picture.width !== pixels) this.picture = this.whole(pixels, scale);
     const pen = canvas.getContext('2d');
     canvas.width = this.picture.width;
@@ -107,13 +120,14 @@ export class Strip {
     return picture;
   }
   drawRows(pen, rows) {
-    const { colours } = this.app;
-    const drawn = new Map(); // by class up to where
+    const { colours, model } = this.app;
+    const scale = this.width / model.end;
+    const drawn = { __proto__: null }; // by class up to where
     for (const row of rows) {
-      const from = this.x(row.at);
-      const to = Math.max(this.x(row.until ?? row.at), from + 1);
-      if (to <= drawn.get(row.cls)) continue;
-      drawn.set(row.cls, Math.ceil(to));
+      const from = row.at * scale;
+      const to = Math.max((row.until ?? row.at) * scale, from + 1);
+      if (to <= drawn[row.cls]) continue;
+      drawn[row.cls] = Math.ceil(to);
       pen.fillStyle = colours[row.cls] || colours.dim;
       const [top, bottom] = SHAPES[row.cls] || SHAPES.idle;
       if (row.type === 'event') pen.fillRect(from - 1, 0, 2, 8);

@@ -5,7 +5,7 @@ import { asMermaid, Chart } from './chart.js';
 import { byId, counted, html } from './elements.js';
 import { finder, makeReady } from './find.js';
 import { addWave, build, isWave } from './model.js';
-import { COMMANDS, drawSweep, help, PANELS } from './panels.js';
+import { commands, drawSweep, help, PANELS } from './panels.js';
 import { acknowledgersOf, slotsOf } from './slots.js';
 import { nearest, Strip, timeInAddress } from './strip.js';
 import { asText, isAudit, kindOf, readDump } from './texts.js';
@@ -373,13 +373,13 @@ class App {
       html('h2', {}, 'Look at a run, a capture or a report of hdminet'),
       html('p', {}, 'Drop files here, press ', html('kbd', {}, 'o'), ' to open or paste, or make a page with its data in it:'),
       html('pre', {}, 'tools/look x.net\ntools/look x.test\ntools/look capture.vcd'),
-      html('p', {}, 'Files that it reads, several at a time:'), html('pre', {}, COMMANDS),
+      html('p', {}, 'Files that it reads, several at a time:'), commands(),
     );
   }
 
   /* The whole run in one strip. The rows in sight and the wave's part are marked. */
   drawStrip(isChanged) {
-    if (this.strip) this.strip.draw(isChanged);
+    if (this.strip) this.strip.drawSoon(isChanged);
   }
   /* Selects the row that is nearest to a part of the whole; idle time is none. */
   selectAt(part) {
@@ -494,7 +494,7 @@ class App {
       html('h2', {}, 'Open'),
       html('p', {}, html('button', { click: () => byId('file').click() }, 'Choose files ..'),
         ' several at a time: objects of the run, its dump, its room'),
-      area, html('p', {}, html('button', { click: see }, 'See what is pasted')), html('pre', {}, COMMANDS),
+      area, html('p', {}, html('button', { click: see }, 'See what is pasted')), commands(),
     );
   }
 

@@ -50,6 +50,11 @@ export function verdictInWords({ o, verdict, cls, remarks }) {
   return remarks.length > 0 ? `${words} ⚠ ${remarks.map(remark => remark.text).join('; ')}` : words;
 }
 
+/* The line of a script that expects a round as it was, in its own window (docs/formats.md, "Expectations"). */
+export function expectOf({ begin, close, ending, frame, verdict, bits }) {
+  return `expect from ${begin} to ${close} ${ending === 'complete' ? `${frame} ${verdict}` : `${ending} ${bits || '-'}`}`;
+}
+
 /* What a round says, in a sentence. */
 export function meaningOf(round, model) {
   const { cls } = round.row;
