@@ -6,8 +6,8 @@ that are laid on its line. It returns what is wrong, a sentence each; nothing wh
 import collections
 import re
 
-# When a device has found its address, and how long a scene goes on for each question in it, in microseconds.
-SETTLED, ANSWERED = 3_000_000, 300_000
+# When a device has found its address, and how long it may take to answer a question (CEC 9.2: a second) and to say so, in microseconds.
+SETTLED, ANSWERED = 3_000_000, 1_100_000
 # CEC 5.2, nominal: a start bit, a data bit, and how long a 0 and a 1 are low.
 START_LOW, START, BIT, ZERO, ONE = 3_700, 4_500, 2_400, 1_500, 600
 BITS_OF_A_BLOCK, ACK_BIT, BITS_OF_AN_ADDRESS = 10, 9, 4
