@@ -15,6 +15,7 @@ sys.dont_write_bytecode = True
 sys.path.insert(0, os.path.join(TOP, "tests/suite"))
 sys.path.insert(0, os.path.join(TOP, "examples/suite"))
 
+from bitbanged import FAULTS, BitBanged, Timing  # noqa: E402
 from faulty import SLIPS  # noqa: E402
 import faulty_features  # noqa: E402, F401
 import faulty_televisions  # noqa: E402, F401
@@ -40,7 +41,10 @@ KNOWN = {
 }
 # The frames that were spelled by now; each process has its own.
 FRAMES = runner.Frames(PROGRAM)
-TESTS = runner.tests_of(runner.TESTS, [])
+TESTS = [test for test in runner.tests_of(runner.TESTS, []) if isinstance(test, runner.Test)]
+WIRE_TESTS = runner.wire.TESTS
+# How late an interrupt of a right device's pin comes, in microseconds.
+LATENCIES = (1, 20, 100, 150, 300)
 
 
 class Here:
@@ -171,6 +175,40 @@ def greedy_devices(pool):
     return right
 
 
+class Always:
+    """Gives one device of this process to each scene, which makes it new."""
+
+    def __init__(self, device):
+        self.device = Here(device)
+
+    def take(self):
+        return self.device
+
+    def give_back(self, is_broken):
+        pass
+
+
+def of_the_wire(latency_and_fault):
+    """The tests of the wire that a device by pin fails, with what they say."""
+    latency, fault = latency_and_fault
+    suite = runner.Suite(PROGRAM, "player", 2, 60)
+    suite.frames = FRAMES
+    devices = Always(BitBanged(latency, FAULTS[fault][0] if fault else Timing()))
+    return {test.name: result.below for test in WIRE_TESTS if not (result := suite.wire_test(test, devices)).holds}
+
+
+def faults_of_the_wire_are_seen(pool):
+    """Each fault of the wire fails the test that is named after it, and no other but those that stand beside it; a right device fails none."""
+    cases = [(20, fault) for fault in FAULTS] + [(latency, None) for latency in LATENCIES]
+    right = True
+    for (latency, fault), got in zip(cases, pool.map(of_the_wire, cases)):
+        want = set(FAULTS[fault][1].split()) if fault else set()
+        if set(got) != want:
+            print("suite: %s at %d: fails %s" % (fault or "a right device", latency, got))
+            right = False
+    return right
+
+
 class SleepsOver(Reference):
     """Says its name two seconds after it was asked."""
     thinks = 2_000_000
@@ -297,8 +335,7 @@ def run_of(device, text):
     """A run of a device over a test that is text, and the script with its expectations."""
     suite = runner.Suite(PROGRAM, "player", 2, 60)
     suite.frames = FRAMES
-    with tempfile.TemporaryDirectory() as room:
-        run = runner.Run(suite, runner.Test("own", written(room, "own", HEAD + text)), Here(device))
+    run = runner.Run(suite, runner.Test("own", HEAD + text, "own"), Here(device))
     run.whole()
     return run, run.kept()[0]
 
@@ -563,6 +600,7 @@ WHAT = [
     unplugged_devices,
     pins_are_exact,
     pins_are_judged,
+    faults_of_the_wire_are_seen,
     ill_formed_tests,
     broken_devices,
     programs_are_driven,
