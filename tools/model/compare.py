@@ -910,10 +910,14 @@ def gen_met(r):
             i = r.randrange(len(text))
             text = text[:i] + r.choice('abcdefx0159 :.->"-_F') + text[i + (r.random() < .7):]
         if 1 <= len(text) <= 160 and text.count('*') <= 4: break
-    if not patterns.is_met(text.encode('latin1', 'replace')):
+    whole = re.fullmatch(r'([^*@]+) (?:ok|refused|ack|nack) by [^ *]+ out [^ *]+', text)
+    if not patterns.is_met(text.encode('latin1', 'replace'), ['tv', 'p1']):
         # The model by places against the meaning of a pattern.
         assert not any(expectations.fits(text.encode('latin1', 'replace'), said(r).encode()) for _ in range(100)), text
-    return ['check'], 'device tv tv 4\nscript\nexpect from 0 to 1 %s\nend 1\n' % text
+    elif whole:
+        # A frame that a pattern has whole is one that `asm` takes.
+        wire.assemble(whole[1].encode('latin1'))
+    return ['check'], 'device tv tv 4\ndevice p1 player 0\nscript\nexpect from 0 to 1 %s\nend 1\n' % text
 
 
 def gen_window(r, lines, labels, end, near):

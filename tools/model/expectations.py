@@ -130,7 +130,7 @@ def expectations(script, names, end):
                     causes.append('label')
             elif it.kind == 'rounds' and it.of is not None and it.of not in labels:
                 causes.append('label')
-            if it and (it.kind == 'rounds' and not patterns.is_met(it.pattern) or it.kind == 'refused' and it.word not in patterns.REFUSALS
+            if it and (it.kind == 'rounds' and not patterns.is_met(it.pattern, list(names)) or it.kind == 'refused' and it.word not in patterns.REFUSALS
                     or it.kind == 'state' and not all(STATE_WORD.fullmatch(word) for word in it.words)):
                 causes.append('pattern')
         if causes:

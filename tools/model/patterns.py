@@ -6,7 +6,6 @@ DIGITS = frozenset(b'0123456789')
 HEX = DIGITS | frozenset(b'abcdef')
 LETTERS = frozenset(range(97, 123))
 QUOTABLE = frozenset(range(32, 127)) - {34}
-WORD = frozenset(range(256)) - {32}
 STAR, SPACE = 42, 32
 ENDINGS = ('short', 'silent', 'bad-start', 'long', 'open')
 REFUSALS = (b'port-range', b'port-taken', b'not-loose', b'loop', b'not-plugged', b'not-for-kind', b'off-wire', b'queue-full', b'own-address', b'no-address')
@@ -65,22 +64,82 @@ def operand(at, kind):
     if kind == 'id': return at.one(HEX).one(HEX).one(HEX).one(HEX).one(HEX).one(HEX)
     if kind == 'lang': return at.one(LETTERS).one(LETTERS).one(LETTERS)
     if kind == 'pa': return at.one(HEX).text('.').one(HEX).text('.').one(HEX).text('.').one(HEX)
-    if kind.startswith('text'): return at.text('"').many(QUOTABLE).text('"')
-    if kind == 'vol': return at.text('mute ').any(at.text('sound ')).many(DIGITS)
+    if kind.startswith('text'):
+        texts = [at.text('"')]
+        for _ in range(int(kind[4:])): texts.append(texts[-1].one(QUOTABLE))
+        return texts[1].any(*texts[2:]).text('"')
+    if kind == 'vol':
+        words = [at.text('%s %d' % (word, n)) for word in ('mute', 'sound') for n in range(101)]
+        return words[0].any(*words[1:])
     words = [at.text(word) for word in SETS[kind].values()]
     return words[0].any(*words[1:])
 
 
+ANY = frozenset(range(256))
+
+
+def worded(kinds):
+    """the counts of bytes of operands that have words where each byte has one, and by its place which bytes have one"""
+    least, most, bytes_ = 0, 0, []
+    for kind in kinds:
+        if kind.startswith('text'):
+            n = int(kind.strip('?')[4:])
+            bytes_ += [QUOTABLE] * n
+            least += 0 if kind.endswith('?') else 1
+            most += n
+            continue
+        one = {'byte': [ANY], 'id': [ANY] * 3, 'lang': [LETTERS] * 3, 'pa': [ANY] * 2, 'vol': [frozenset(b for b in ANY if b % 128 <= 100)]}.get(kind.strip('?'))
+        if one is None: one = [frozenset(SETS[kind])]
+        bytes_ += one
+        if kind.endswith('?'): return {0, len(one)}, bytes_
+        least += len(one)
+        most += len(one)
+    return set(range(least, most + 1)), bytes_
+
+
+def hex_of(at, allowed):
+    """after two hex digits of one of these bytes"""
+    if allowed == ANY: return at.one(HEX).one(HEX)
+    return Places(at.pattern, set().union(*(at.text('%02x' % b).places for b in allowed))) if allowed and at.places else Places(at.pattern, ())
+
+
+def raw(at, kinds):
+    """after operands that have no words, as they are: up to fourteen bytes in hex; kinds is None where no count has words"""
+    counts, bytes_ = (set(), []) if kinds is None else worded(kinds)
+    fit, spoilt, ends = at.text(' :'), Places(at.pattern, ()), []
+    for n in range(15):
+        ends.append(spoilt if n in counts else spoilt.any(fit))
+        known = bytes_[n] if n < len(bytes_) else ANY
+        fit, spoilt = hex_of(fit, known), spoilt.one(HEX).one(HEX).any(hex_of(fit, ANY - known))
+    return ends[0].any(*ends[1:])
+
+
 def opcode(at, code):
-    """after an opcode and its operands, in words or as they are"""
+    """after an opcode and its operands, in words or, where they have none, as they are"""
     name = ROWS[code][0] if code in ROWS else SECOND.get(code, 'op-%02x' % code)
     at = at.text(' ' + name)
     if not at.places: return at
-    raw = at.text(' :').many(HEX)
-    if code not in ROWS: return raw
+    if code not in ROWS: return raw(at, None)
+    start = at
     for kind in ROWS[code][1]:
         at = operand(at, kind)
-    return at.any(raw)
+    return at.any(raw(start, ROWS[code][1]))
+
+
+def listed(at, names, said):
+    """after some of these devices in their order, with commas between them, or a dash"""
+    more, ends = [], [at.text('-')]
+    for name in names:
+        # after those that are before it
+        before = [at] + [place.text(',') for place in more]
+        more.append(said(before[0].any(*before[1:]).text(name)))
+    return ends[0].any(*more)
+
+
+def stopped(at):
+    """after the slot at which a device stopped: a round has at most 160"""
+    slots = [at.text('@%d' % slot) for slot in range(1, 161)]
+    return slots[0].any(*slots[1:])
 
 
 NAME = re.compile(rb'([^ @]*)@([^ >]*)(.*)', re.S)
@@ -102,15 +161,20 @@ def with_addresses(pattern, addresses, most=2):
     return [p for a in addresses(m[2]) for p in with_addresses(m[1] + b'%x' % a + m[3], addresses, most - 1)]
 
 
-def is_met(pattern):
-    """whether the line of some round meets it; all addresses below 15 are alike"""
+def is_met(pattern, names=None):
+    """whether the line of some round meets it, in a run of these devices, or else in a capture; all addresses below 15 are alike"""
     start = Places(with_addresses(pattern, lambda name: [0])[0])
     said = []
-    for ending in ENDINGS:
+    for ending in ENDINGS if names is None else ENDINGS[:-1]:
         at = start.text(ending + ' ')
-        said += [at.text('-'), at.one(frozenset(b'01')).many(frozenset(b'01'))]
+        said.append(at.text('-'))
+        if ending != 'bad-start': said.append(at.one(frozenset(b'01')).many(frozenset(b'01')))
     for last, verdicts in ((HEX - {102}, ('ack', 'nack')), (frozenset([102]), ('ok', 'refused'))):
         header = start.one(HEX).text('>').one(last)
         for at in [header] + [opcode(header, code) for code in range(256) if header.places]:
             said += [at.text(' ' + verdict) for verdict in verdicts if at.places]
-    return any(at.text(' by ').many(WORD).text(' out ').many(WORD).ends() for at in said if at.places)
+    said = [at for at in said if at.places]
+    if names is None: return any(at.ends() for at in said)
+    if not said: return False
+    by = listed(said[0].any(*said[1:]).text(' by '), names, lambda at: at)
+    return listed(by.text(' out '), names, stopped).ends()

@@ -1,6 +1,7 @@
 -- The first line at fault, where faults are of two kinds.
 use Rattle.std.proofs.Common.{◌≡◌, ℕ, ◌+◌, ◌≤◌, Bool, true, false, nat_lt, List, [], ◌∷◌, Option, Some, None, ap, refl, cond, arith, lt-ltb, le-ltb}
-use Rattle.expect_text.specs.Faults.{fault_or, line_fault as expectation_fault, faults_from as expectations_from}
+use Rattle.expect_text.specs.Faults.{fault_or, reading_fault, faults_from as expectations_from}
+use Rattle.expect_text.specs.Senders.Judged.{Capture}
 use Rattle.text_core.specs.declared.at.AtWord.{AtWord}
 use Rattle.expect_text.specs.declared.form.ExpectCause.{ExpectCause}
 use Rattle.text_core.specs.declared.at.At.{At}
@@ -21,10 +22,10 @@ kinds_not_before : (number : ℕ) (lines : List (List ℕ)) → NotBefore number
 kinds_not_before number [] = tt
 kinds_not_before number (line ∷ lines) = not_before number (line_fault line) (kinds_from (number + 1) lines) (kinds_not_before (number + 1) lines)
 
-expectations_not_before : (text : List ℕ) (number : ℕ) (lines : List (List ℕ)) → NotBefore number (expectations_from [] text number lines)
+expectations_not_before : (text : List ℕ) (number : ℕ) (lines : List (List ℕ)) → NotBefore number (expectations_from Capture [] text number lines)
 expectations_not_before text number [] = tt
 expectations_not_before text number (line ∷ lines) =
-    not_before number (expectation_fault [] text number line) (expectations_from [] text (number + 1) lines) (expectations_not_before text (number + 1) lines)
+    not_before number (reading_fault text number line) (expectations_from Capture [] text (number + 1) lines) (expectations_not_before text (number + 1) lines)
 
 choose : (b c : Bool) (x y : At ExpectCause) → b ≡ c → (cond b (Some x) (Some y)) ≡ cond c (Some x) (Some y)
 choose b c x y e = ap (λ v. cond v (Some x) (Some y)) e
@@ -41,8 +42,8 @@ joined number (Some own) None kinds (Some fault) all k e is =
 joined number (Some own) (Some other) kinds expectations all k e is =
     choose (nat_lt number number) false (record { line = number; cause = other.cause; word = other.word }) (record { line = number; cause = own.cause; word = own.word }) (le-ltb number number (omega arith))
 
-pub first_is : (text : List ℕ) (number : ℕ) (lines : List (List ℕ)) → earlier (kinds_from number lines) (expectations_from [] text number lines) ≡ faults_from text number lines
+pub first_is : (text : List ℕ) (number : ℕ) (lines : List (List ℕ)) → earlier (kinds_from number lines) (expectations_from Capture [] text number lines) ≡ faults_from text number lines
 first_is text number [] = refl
 first_is text number (line ∷ lines) =
-    joined number (line_fault line) (expectation_fault [] text number line) (kinds_from (number + 1) lines) (expectations_from [] text (number + 1) lines) (faults_from text (number + 1) lines)
+    joined number (line_fault line) (reading_fault text number line) (kinds_from (number + 1) lines) (expectations_from Capture [] text (number + 1) lines) (faults_from text (number + 1) lines)
     (kinds_not_before (number + 1) lines) (expectations_not_before text (number + 1) lines) (first_is text (number + 1) lines)

@@ -1,7 +1,7 @@
 -- The first line of expectations of a capture that is at fault (own). Lines count from 1.
 use Rattle.std.specs.Prelude.{ℕ, ◌+◌, nat_lt, if◌then◌else◌, List, [], ◌∷◌, Option, Some, None}
 use Rattle.text_core.specs.Lines.{lines_of}
-use Rattle.expect_text.specs.Faults.{fault_or, line_fault as expectation_fault}
+use Rattle.expect_text.specs.Faults.{fault_or, reading_fault}
 use Rattle.text_core.specs.declared.at.AtWord.{AtWord}
 use Rattle.expect_text.specs.declared.form.ExpectCause.{ExpectCause}
 use Rattle.text_core.specs.declared.at.At.{At}
@@ -13,10 +13,10 @@ or_else None next = next
 or_else (Some fault) next = Some fault
 
 -- the first line at fault of these, of which the first has this number: it is none of a capture's, or its label or expectation is
--- at fault as in a script; there are no devices
+-- at fault as in a script; there are no devices, and nobody is said to send
 abbrev pub faults_from : List ℕ → ℕ → List (List ℕ) → Option (At ExpectCause)
 faults_from text number [] = None
-faults_from text number (line ∷ lines) = fault_or number (or_else (line_fault line) (expectation_fault [] text number line)) (faults_from text (number + 1) lines)
+faults_from text number (line ∷ lines) = fault_or number (or_else (line_fault line) (reading_fault text number line)) (faults_from text (number + 1) lines)
 
 -- of expectations of readings
 abbrev pub readings_fault : List ℕ → Option (At ExpectCause)

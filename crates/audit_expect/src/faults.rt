@@ -233,7 +233,7 @@ fn earlier(
 fn readings_fault(alloc: Global, text: &[u8]) -> Result<Option<At<ExpectCause>>, AllocError>
     ensures { IfOk result (λ fault. fault ≡ readings_fault text.now) }
 {
-    let fault = expect_text::first_fault(alloc, &[], text)?;
+    let fault = expect_text::readings_fault(alloc, text)?;
     Ok(earlier(kind_fault_in(text), fault))
 }
 

@@ -1,6 +1,6 @@
 //! Names of devices in patterns, worked out by hand.
 use crate::cases::{fault_of, holds, report_of, spelled};
-use expect_text::{has_names, is_meetable, meets, named_in};
+use expect_text::{Judged, has_names, is_meetable, meets, named_in};
 
 /// A pattern, what a line says with who holds which address, and whether it is met.
 const NAMED: &str = "\
@@ -69,7 +69,8 @@ fn names_are_found(rt: HostRuntime) {
     assert!(rt; named.front == b"4>".as_slice() && named.name == b"tv".as_slice());
     assert!(rt; named.rest == b" standby".as_slice());
     assert!(rt; named_in(b"4>0 @tv").is_none());
-    assert!(rt; is_meetable(b"@a>@b standby ack") && !is_meetable(b"@a>@b standby ok"));
+    assert!(rt; is_meetable(Judged::Capture, b"@a>@b standby ack"));
+    assert!(rt; !is_meetable(Judged::Capture, b"@a>@b standby ok"));
     assert!(rt; has_names(b"end 5\nexpect from 0 to 5 *>@tv\n"));
     assert!(rt; !has_names(b"expect from 0 to 5 4>0 set-osd-name \"@tv\"\n"));
 }

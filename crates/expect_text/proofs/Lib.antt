@@ -1,6 +1,10 @@
 pub mod Parted
 pub mod Tabled
+pub mod Truth
+pub mod Below
+pub mod Declaring
 pub mod Meeting
+pub mod Sending
 pub mod Wording
 pub mod Fronts
 pub mod Saying

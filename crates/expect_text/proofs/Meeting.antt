@@ -1,44 +1,22 @@
 -- A pattern is met by a text of these parts exactly where it is found to be.
-use Rattle.std.proofs.Common.{◌≡◌, ℕ, ◌==◌, ◌&&◌, ◌||◌, not, Bool, true, false, if◌then◌else◌, List, [], ◌∷◌, ◌++◌, Some, refl, sym, ap, subst, rules, ◌∙◌, arith, slice_get, zero, suc, true≢false}
+use Rattle.std.proofs.Common.{◌≡◌, ℕ, ◌<◌, ◌==◌, ◌&&◌, ◌||◌, not, Bool, true, false, if◌then◌else◌, List, [], ◌∷◌, ◌++◌, Some, refl, sym, ap, subst, rules, ◌∙◌, arith, slice_get, zero, suc, true≢false}
 use Rattle.std.specs.List.{list_all, list_any}
 use Rattle.std.proofs.lemmas.Grind.{common_steps}
+use Rattle.text_core.specs.Piece.{hex_text}
 use Rattle.message_table.specs.WordSets.{NamedByte, words_of}
 use Rattle.message_table.specs.declared.word_set.WordSet.{WordSet}
 use Rattle.message_table.specs.declared.word_set.WordSet.TheVariants as sets
 use Rattle.message_text.specs.FrameText.{opcode_text}
 use Rattle.expect_text.specs.Fits.{fits, in_word, after_byte as fits_byte}
-use Rattle.expect_text.specs.Parts.{IsTextOf, after_byte, after_many, after_one, after_set, after_text, after_word, has, is_met}
+use Rattle.expect_text.specs.Parts.{IsEnd, IsTextBefore, IsTextOf, after_byte, after_many, after_one, after_set, after_text, after_unworded, after_word, end_met, has, has_word, is_met, is_met_unworded}
 use Rattle.expect_text.specs.declared.part.Class.{Class}
 use Rattle.expect_text.specs.declared.part.Class.TheVariants as classes
 use Rattle.expect_text.specs.declared.part.PatternPart.{PatternPart}
-use Rattle.expect_text.specs.declared.part.PatternPart.TheVariants.{Byte, One, Many, Word, Opcode}
-
--- ---- truth
-
-pub or_left : (a b : Bool) → a ≡ true → (a || b) ≡ true
-or_left true b h = refl
-or_left false b h = absurd (true≢false (sym h))
-
-pub or_right : (a b : Bool) → b ≡ true → (a || b) ≡ true
-or_right true b h = refl
-or_right false b h = h
-
--- of an `or`, whichever holds
-pub either : {T : Type 0} (a b : Bool) → (a || b) ≡ true → (a ≡ true → T) → (b ≡ true → T) → T
-either true b h left right = left refl
-either false b h left right = right h
-
-pub and_both : (a b : Bool) → a ≡ true → b ≡ true → (a && b) ≡ true
-and_both true b h k = k
-and_both false b h k = absurd (true≢false (sym h))
-
-pub first_of : (a b : Bool) → (a && b) ≡ true → a ≡ true
-first_of true b h = refl
-first_of false b h = h
-
-pub second_of : (a b : Bool) → (a && b) ≡ true → b ≡ true
-second_of true b h = h
-second_of false b h = absurd (true≢false (sym h))
+use Rattle.expect_text.specs.declared.part.PatternPart.TheVariants.{Byte, One, Many, Word, Unworded, Opcode}
+use Rattle.expect_text.specs.declared.part.Worded.{Worded}
+use Rattle.expect_text.specs.declared.part.Worded.TheVariants.{Listed, Character, Quoted, Loudness}
+use Rattle.expect_text.proofs.Below.{below_only, below_some}
+use Rattle.expect_text.proofs.Truth.{or_left, or_right, either, and_both, first_of, second_of}
 
 same_byte : (a b : ℕ) → (a == b) ≡ true → a ≡ b
 same_byte a b h = grind (arith, common_steps)
@@ -191,7 +169,7 @@ module _ (met : List ℕ → Bool) (Texts : List ℕ → Type 0) (d : Decides me
       }
 
 module _ (met : List ℕ → Bool) (Texts : List ℕ → Type 0) (d : Decides met Texts) where
-  text_decides : (front : List ℕ) → Decides (after_text front met) (λ text. (more : List ℕ) × (text ≡ front ++ more) × Texts more)
+  pub text_decides : (front : List ℕ) → Decides (after_text front met) (λ text. (more : List ℕ) × (text ≡ front ++ more) × Texts more)
   text_decides [] = record {
     only = λ pattern text t f. d.only pattern t.0 t.2 (subst (λ x. fits pattern x ≡ true) t.1 f);
     some = λ pattern h. let m = d.some pattern h in (m.0, (m.0, refl, m.1), m.2);
@@ -223,10 +201,11 @@ a_byte : (class : Class) → (b : ℕ) × (has class b ≡ true) × (not (b == 3
 a_byte classes.Hex = (48, refl, refl)
 a_byte classes.Directed = (48, refl, refl)
 a_byte classes.Digit = (48, refl, refl)
+a_byte classes.NonZero = (49, refl, refl)
+a_byte classes.UpToFive = (48, refl, refl)
 a_byte classes.Bit = (48, refl, refl)
 a_byte classes.Letter = (97, refl, refl)
 a_byte classes.Quotable = (97, refl, refl)
-a_byte classes.Unspaced = (48, refl, refl)
 a_byte classes.Any = (48, refl, refl)
 
 -- a word of a set
@@ -258,53 +237,97 @@ pub by_set : (set : WordSet) (met : List ℕ → Bool) (pattern : List ℕ) (wor
 unfolding after_set
 by_set set met pattern words same = ap (λ (ws : List NamedByte). after_word ws met pattern) same
 
-pub decides : (parts : List PatternPart) → Decides (is_met parts) (IsTextOf parts)
-unfolding after_set
-decides [] = record {
+-- a byte that has no word
+a_spoilt : (kind : Worded) → (b : ℕ) × (b < 256) × (has_word kind b ≡ false)
+a_spoilt (Listed sets.Reason) = (255, omega arith, refl)
+a_spoilt (Listed sets.Power) = (255, omega arith, refl)
+a_spoilt (Listed sets.OnOff) = (255, omega arith, refl)
+a_spoilt (Listed sets.DeviceType) = (255, omega arith, refl)
+a_spoilt (Listed sets.StatusRequest) = (255, omega arith, refl)
+a_spoilt (Listed sets.DeckInfo) = (255, omega arith, refl)
+a_spoilt (Listed sets.PlayMode) = (255, omega arith, refl)
+a_spoilt (Listed sets.DeckControl) = (255, omega arith, refl)
+a_spoilt (Listed sets.Display) = (255, omega arith, refl)
+a_spoilt (Listed sets.MenuRequest) = (255, omega arith, refl)
+a_spoilt (Listed sets.MenuState) = (255, omega arith, refl)
+a_spoilt (Listed sets.Version) = (255, omega arith, refl)
+a_spoilt (Listed sets.UserControl) = (255, omega arith, refl)
+a_spoilt Character = (0, omega arith, refl)
+a_spoilt Quoted = (0, omega arith, refl)
+a_spoilt Loudness = (127, omega arith, refl)
+
+not_so : (b : Bool) → b ≡ false → not b ≡ true
+not_so b h = ap not h
+
+is_not : (b : Bool) → not b ≡ true → b ≡ false
+is_not true h = absurd (true≢false (sym h))
+is_not false h = refl
+
+pub end_decides : Decides end_met IsEnd
+end_decides = record {
   only = λ pattern text t f. subst (λ x. fits pattern x ≡ true) t f;
   some = λ pattern h. ([], refl, h);
   any = ([], refl);
 }
-decides (Byte b ∷ parts) = let same = byte_decides (is_met parts) (IsTextOf parts) (decides parts) b in
-    record { only = same.only; some = same.some; any = same.any }
-decides (One class ∷ parts) =
-    let b = a_byte class in
-    let same = one_decides (has class) (is_met parts) (IsTextOf parts) (decides parts) true (λ b h k. refl) (λ k. b) b.0 b.1 in
-    record { only = same.only; some = same.some; any = same.any }
-decides (Many class ∷ parts) = let same = many_decides (has class) (is_met parts) (IsTextOf parts) (decides parts) in
-    record { only = same.only; some = same.some; any = same.any }
-decides (Word set ∷ parts) =
-    let d = decides parts in
-    let w = a_word set in
-    record {
-      only = λ pattern text t f. any_only (λ (w : NamedByte). after_text w.text (is_met parts) pattern) (words_of set) t.0 t.1 t.3
-          ((text_decides (is_met parts) (IsTextOf parts) d t.1.text).only pattern text (t.2, t.4, t.5) f);
-      some = λ pattern h. let a = any_some (λ (w : NamedByte). after_text w.text (is_met parts) pattern) (words_of set) h in
-          let r = (text_decides (is_met parts) (IsTextOf parts) d a.1.text).some pattern a.3 in
-          (r.0, (a.0, a.1, r.1.0, a.2, r.1.1, r.1.2), r.2);
-      any = (w.0.text ++ d.any.0, (0, w.0, d.any.0, w.1, refl, d.any.1));
-    }
-decides (Opcode code ∷ parts) = let same = text_decides (is_met parts) (IsTextOf parts) (decides parts) (opcode_text code) in
-    record { only = same.only; some = same.some; any = same.any }
 
--- ---- a front that no text has
+module _ (met : List ℕ → Bool) (Rest : List ℕ → Type 0) (end : Decides met Rest) where
+  pub decides : (parts : List PatternPart) → Decides (is_met met parts) (IsTextBefore Rest parts)
+  unfolding after_set after_unworded
+  decides [] = record { only = end.only; some = end.some; any = end.any }
+  decides (Byte b ∷ parts) = let same = byte_decides (is_met met parts) (IsTextBefore Rest parts) (decides parts) b in
+      record { only = same.only; some = same.some; any = same.any }
+  decides (One class ∷ parts) =
+      let b = a_byte class in
+      let same = one_decides (has class) (is_met met parts) (IsTextBefore Rest parts) (decides parts) true (λ b h k. refl) (λ k. b) b.0 b.1 in
+      record { only = same.only; some = same.some; any = same.any }
+  decides (Many class ∷ parts) = let same = many_decides (has class) (is_met met parts) (IsTextBefore Rest parts) (decides parts) in
+      record { only = same.only; some = same.some; any = same.any }
+  decides (Word set ∷ parts) =
+      let d = decides parts in
+      let w = a_word set in
+      record {
+        only = λ pattern text t f. any_only (λ (w : NamedByte). after_text w.text (is_met met parts) pattern) (words_of set) t.0 t.1 t.3
+            ((text_decides (is_met met parts) (IsTextBefore Rest parts) d t.1.text).only pattern text (t.2, t.4, t.5) f);
+        some = λ pattern h. let a = any_some (λ (w : NamedByte). after_text w.text (is_met met parts) pattern) (words_of set) h in
+            let r = (text_decides (is_met met parts) (IsTextBefore Rest parts) d a.1.text).some pattern a.3 in
+            (r.0, (a.0, a.1, r.1.0, a.2, r.1.1, r.1.2), r.2);
+        any = (w.0.text ++ d.any.0, (0, w.0, d.any.0, w.1, refl, d.any.1));
+      }
+  decides (Unworded kind ∷ parts) =
+      let d = decides parts in
+      let w = a_spoilt kind in
+      record {
+        only = λ pattern text t f. below_only (is_met_unworded kind (is_met met parts) pattern) 256 t.0 t.2
+            (and_both (not (has_word kind t.0)) (after_text (hex_text t.0) (is_met met parts) pattern) (not_so (has_word kind t.0) t.3)
+            ((text_decides (is_met met parts) (IsTextBefore Rest parts) d (hex_text t.0)).only pattern text (t.1, t.4, t.5) f));
+        some = λ pattern h. let a = below_some (is_met_unworded kind (is_met met parts) pattern) 256 h in
+            let r = (text_decides (is_met met parts) (IsTextBefore Rest parts) d (hex_text a.0)).some pattern (second_of (not (has_word kind a.0)) (after_text (hex_text a.0) (is_met met parts) pattern) a.2) in
+            (r.0, (a.0, r.1.0, a.1, is_not (has_word kind a.0) (first_of (not (has_word kind a.0)) (after_text (hex_text a.0) (is_met met parts) pattern) a.2), r.1.1, r.1.2), r.2);
+        any = (hex_text w.0 ++ d.any.0, (w.0, d.any.0, w.1, w.2, refl, d.any.1));
+      }
+  decides (Opcode code ∷ parts) = let same = text_decides (is_met met parts) (IsTextBefore Rest parts) (decides parts) (opcode_text code) in
+      record { only = same.only; some = same.some; any = same.any }
 
--- any text that begins with such a front
-front_of : (front rest : List PatternPart) (text : List ℕ) → IsTextOf (front ++ rest) text → IsTextOf (front ++ Many classes.Any ∷ []) text
-front_of [] rest text t = (text, [], all_any text, sym (append_none text), refl)
-front_of (Byte b ∷ front) rest text t = (t.0, t.1, front_of front rest t.0 t.2)
-front_of (One class ∷ front) rest text t = (t.0, t.1, t.2, t.3, front_of front rest t.1 t.4)
-front_of (Many class ∷ front) rest text t = (t.0, t.1, t.2, t.3, front_of front rest t.1 t.4)
-front_of (Word set ∷ front) rest text t = (t.0, t.1, t.2, t.3, t.4, front_of front rest t.2 t.5)
-front_of (Opcode code ∷ front) rest text t = (t.0, t.1, front_of front rest t.0 t.2)
+  -- ---- a front that no text has
+
+  -- any text that begins with such a front
+  front_of : (front rest : List PatternPart) (text : List ℕ) → IsTextBefore Rest (front ++ rest) text → IsTextOf (front ++ Many classes.Any ∷ []) text
+  front_of [] rest text t = (text, [], all_any text, sym (append_none text), refl)
+  front_of (Byte b ∷ front) rest text t = (t.0, t.1, front_of front rest t.0 t.2)
+  front_of (One class ∷ front) rest text t = (t.0, t.1, t.2, t.3, front_of front rest t.1 t.4)
+  front_of (Many class ∷ front) rest text t = (t.0, t.1, t.2, t.3, front_of front rest t.1 t.4)
+  front_of (Word set ∷ front) rest text t = (t.0, t.1, t.2, t.3, t.4, front_of front rest t.2 t.5)
+  front_of (Unworded kind ∷ front) rest text t = (t.0, t.1, t.2, t.3, t.4, front_of front rest t.1 t.5)
+  front_of (Opcode code ∷ front) rest text t = (t.0, t.1, front_of front rest t.0 t.2)
 
 -- where no text with this front meets a pattern, none of more parts does
-pub needs_front : (front rest : List PatternPart) (pattern : List ℕ) → is_met (front ++ Many classes.Any ∷ []) pattern ≡ false → is_met (front ++ rest) pattern ≡ false
-needs_front front rest pattern none = by (is_met (front ++ rest) pattern) refl
+pub needs_front : (met : List ℕ → Bool) (Rest : List ℕ → Type 0) → Decides met Rest → (front rest : List PatternPart) (pattern : List ℕ)
+    → is_met end_met (front ++ Many classes.Any ∷ []) pattern ≡ false → is_met met (front ++ rest) pattern ≡ false
+needs_front met Rest end front rest pattern none = by (is_met met (front ++ rest) pattern) refl
   where
-    by : (b : Bool) → is_met (front ++ rest) pattern ≡ b → b ≡ false
+    by : (b : Bool) → is_met met (front ++ rest) pattern ≡ b → b ≡ false
     by false h = refl
     by true h =
-        let r = (decides (front ++ rest)).some pattern h in
-        let met = (decides (front ++ Many classes.Any ∷ [])).only pattern r.0 (front_of front rest r.0 r.1) r.2 in
-        sym met ∙ none
+        let r = (decides met Rest end (front ++ rest)).some pattern h in
+        let found = (decides end_met IsEnd end_decides (front ++ Many classes.Any ∷ [])).only pattern r.0 (front_of met Rest end front rest r.0 r.1) r.2 in
+        sym found ∙ none

@@ -4,7 +4,8 @@ use Rattle.expect_text.specs.Fits.{fits}
 use Rattle.expect_text.specs.Laws.{NamesAreMet}
 use Rattle.expect_text.specs.Names.{NamedPattern, for_byte, for_first, for_name, for_names, is_meetable, named_in, with_byte}
 use Rattle.expect_text.specs.Said.{IsSaid, is_said}
-use Rattle.expect_text.proofs.Meeting.{and_both, either, first_of, or_left, or_right, second_of}
+use Rattle.expect_text.specs.Senders.{Judged}
+use Rattle.expect_text.proofs.Truth.{and_both, either, first_of, or_left, or_right, second_of}
 use Rattle.expect_text.proofs.Saying.{patterns_are_met}
 
 first_by : (may_be : List ℕ → ℕ → Bool) (is_so : List ℕ → Bool) (pattern : List ℕ) (n : Option NamedPattern) → named_in pattern ≡ n → for_first may_be is_so pattern ≡ for_name may_be is_so pattern n
@@ -61,17 +62,17 @@ by_names may_be is_so pattern h =
     let inner = by_first may_be is_so outer.0 outer.1 in
     (inner.0, inner.1, λ other is wider k. outer.2 other (for_first other is) wider (inner.2 other is wider k))
 
-names_only : (pattern text : List ℕ) (holds : List ℕ → ℕ → Bool) → IsSaid text → for_names holds (λ p. fits p text) pattern ≡ true → is_meetable pattern ≡ true
+names_only : (who : Judged) (pattern text : List ℕ) (holds : List ℕ → ℕ → Bool) → IsSaid who text → for_names holds (λ p. fits p text) pattern ≡ true → is_meetable who pattern ≡ true
 unfolding is_meetable
-names_only pattern text holds said h =
+names_only who pattern text holds said h =
     let r = by_names holds (λ p. fits p text) pattern h in
-    r.2 (λ name b. true) is_said (λ name b e. refl) (patterns_are_met.only r.0 text said r.1)
+    r.2 (λ name b. true) (is_said who) (λ name b e. refl) (patterns_are_met.only who r.0 text said r.1)
 
-names_met : (pattern : List ℕ) → is_meetable pattern ≡ true → (text : List ℕ) × IsSaid text × (for_names (λ name b. true) (λ p. fits p text) pattern ≡ true)
+names_met : (who : Judged) (pattern : List ℕ) → is_meetable who pattern ≡ true → (text : List ℕ) × IsSaid who text × (for_names (λ name b. true) (λ p. fits p text) pattern ≡ true)
 unfolding is_meetable
-names_met pattern h =
-    let r = by_names (λ name b. true) is_said pattern h in
-    let m = patterns_are_met.met r.0 r.1 in
+names_met who pattern h =
+    let r = by_names (λ name b. true) (is_said who) pattern h in
+    let m = patterns_are_met.met who r.0 r.1 in
     (m.0, m.1, r.2 (λ name b. true) (λ p. fits p m.0) (λ name b e. refl) m.2)
 
 pub names_are_met : NamesAreMet

@@ -13,12 +13,12 @@ use Rattle.expect_text.specs.StateTest.{by_front, by_many, by_one, fields, is_ba
 use Rattle.expect_text.specs.StateWords.{IsBare, IsDash, IsField, IsPair, IsStateWord, IsUnit, IsValue, key, note_parts, number_parts, physical_parts, value_of}
 use Rattle.expect_text.specs.declared.part.Class.TheVariants.{Hex}
 use Rattle.expect_text.specs.declared.part.PatternPart.{PatternPart}
-use Rattle.expect_text.specs.declared.part.PatternPart.TheVariants.{Byte, One, Many, Word, Opcode}
+use Rattle.expect_text.specs.declared.part.PatternPart.TheVariants.{Byte, One, Many, Word, Unworded, Opcode}
 use Rattle.expect_text.specs.declared.state_words.StateField.{StateField}
 use Rattle.expect_text.specs.declared.state_words.StateField.TheVariants.{Active, Path, Deck, Menu, Audio, Volume, Mute, Arc, Selected, Language, Osd, Held, Heard, Sub, Queue, Dropped}
 use Rattle.expect_text.specs.declared.state_words.Value.{Value}
 use Rattle.expect_text.specs.declared.state_words.Value.TheVariants as value
-use Rattle.expect_text.proofs.Meeting.{and_both, either, first_of, or_left, or_right, second_of}
+use Rattle.expect_text.proofs.Truth.{and_both, either, first_of, or_left, or_right, second_of}
 
 -- ---- texts
 
@@ -43,6 +43,7 @@ is_plain (Byte b ∷ parts) = is_plain parts
 is_plain (One class ∷ parts) = is_plain parts
 is_plain (Many class ∷ parts) = is_plain parts
 is_plain (Word set ∷ parts) = false
+is_plain (Unworded kind ∷ parts) = false
 is_plain (Opcode code ∷ parts) = false
 
 abbrev Found : (List ℕ → Bool) → (List ℕ → Type 0) → Type 0
@@ -83,6 +84,7 @@ text_found (One class ∷ parts) p (x ∷ xs) h =
     (x, xs, first_of (has class x) (is_text parts xs) h, refl, text_found parts p xs (second_of (has class x) (is_text parts xs) h))
 text_found (Many class ∷ parts) p text h = many_found (has class) (is_text parts) (IsTextOf parts) (text_found parts p) text h
 text_found (Word set ∷ parts) p text h = absurd (true≢false (sym h))
+text_found (Unworded kind ∷ parts) p text h = absurd (true≢false (sym h))
 text_found (Opcode code ∷ parts) p text h = absurd (true≢false (sym h))
 
 text_have : (parts : List PatternPart) → is_plain parts ≡ true → Have (is_text parts) (IsTextOf parts)
@@ -94,6 +96,7 @@ text_have (One class ∷ parts) p text h =
 text_have (Many class ∷ parts) p text h =
     ap (by_many (has class) (is_text parts)) h.3 ∙ many_have (has class) (is_text parts) h.0 h.1 h.2 (text_have parts p h.1 h.4)
 text_have (Word set ∷ parts) p text h = absurd (true≢false (sym p))
+text_have (Unworded kind ∷ parts) p text h = absurd (true≢false (sym p))
 text_have (Opcode code ∷ parts) p text h = absurd (true≢false (sym p))
 
 -- or `-`

@@ -1,7 +1,7 @@
 -- Labels of a script, and its first line at fault (own). Lines count from 1. A label is a word that is not empty, stands on one
 -- line alone, before an event, a pulse, a pull or an expectation, and above those that name it; of a refusal it is an event's; without one an event stands on the line above. A window does not end before it begins. The devices of
 -- a pattern and of a state are of the topology, and its time is not past the end. Some line of a round meets a pattern, and some state line has each word of a state.
-use Rattle.std.specs.Prelude.{ℕ, ◌+◌, ◌-◌, ◌==◌, nat_lt, ◌&&◌, ◌||◌, not, codes, Bool, true, false, if◌then◌else◌, length, List, [], ◌∷◌, Option, Some, None, Result, Ok, Err}
+use Rattle.std.specs.Prelude.{ℕ, ◌+◌, ◌-◌, ◌==◌, nat_lt, ◌&&◌, ◌||◌, not, codes, Bool, true, false, if◌then◌else◌, length, take, List, [], ◌∷◌, Option, Some, None, Result, Ok, Err}
 use Rattle.std.specs.Str.{bytes_eq}
 use Rattle.std.specs.List.{list_any}
 use Rattle.std.specs.Option.{option_map}
@@ -13,6 +13,8 @@ use Rattle.expect_text.specs.Fault.{after_label}
 use Rattle.text_core.specs.At.{at_line, at_word}
 use Rattle.expect_text.specs.Form.{ExpectLine, ExpectWindow, form_in, in_window}
 use Rattle.expect_text.specs.Names.{NamedPattern, is_meetable, named_in, unmet_word}
+use Rattle.expect_text.specs.Senders.{Judged}
+use Rattle.expect_text.specs.Senders.Judged.{Run, Capture}
 use Rattle.expect_text.specs.StateTest.{strange_word}
 use Rattle.expect_text.specs.Form.ExpectLine.{Other, Rounds, State, Refused}
 use Rattle.expect_text.specs.Form.ExpectWindow.{Within, From}
@@ -91,6 +93,18 @@ declared_in [] = None
 declared_in (verb ∷ []) = None
 declared_in (verb ∷ name ∷ words) = if bytes_eq verb (codes "device") then Some name else None
 
+abbrev pub named_or : Option (List ℕ) → List (List ℕ) → List (List ℕ)
+named_or None names = names
+named_or (Some name) names = name ∷ names
+
+abbrev pub names_in : List (List ℕ) → List (List ℕ)
+names_in [] = []
+names_in (line ∷ lines) = named_or (declared_in (words_of line)) (names_in lines)
+
+-- the devices of a topology, in its order: at most 15
+abbrev pub names_of : List ℕ → List (List ℕ)
+names_of topology = take 15 (names_in (lines_of topology))
+
 -- a line of the topology declares this device
 abbrev pub is_declared : List ℕ → List ℕ → Bool
 is_declared topology name = list_any (λ line. is_named name (declared_in (words_of line))) (lines_of topology)
@@ -116,8 +130,8 @@ window_fault script number quantity (Within duration name) = if is_above number 
 window_fault script number quantity (From from to) = if nat_lt to from then Some (in_window quantity 3 Order) else None
 
 -- no line of a round meets the pattern
-abbrev pub pattern_fault : Quantity → List ℕ → Option (AtWord ExpectCause)
-pattern_fault quantity pattern = if is_meetable pattern then None else Some (in_window quantity (4 + unmet_word pattern) Unmet)
+abbrev pub pattern_fault : Judged → Quantity → List ℕ → Option (AtWord ExpectCause)
+pattern_fault who quantity pattern = if is_meetable who pattern then None else Some (in_window quantity (4 + unmet_word who pattern) Unmet)
 
 abbrev pub or_fault : Option (AtWord ExpectCause) → Option (AtWord ExpectCause) → Option (AtWord ExpectCause)
 or_fault None other = other
@@ -147,11 +161,11 @@ strange_fault (Some word) = Some (at_word word Unmet)
 abbrev pub state_fault : List ℕ → ℕ → List (List ℕ) → Option (AtWord ExpectCause)
 state_fault script time words = if ends_before script time then Some (at_word 2 Order) else strange_fault (strange_word words)
 
-abbrev pub form_fault : List ℕ → ℕ → ExpectLine → Option (AtWord ExpectCause)
-form_fault script number Other = None
-form_fault script number (Rounds quantity window pattern) = or_fault (window_fault script number quantity window) (pattern_fault quantity pattern)
-form_fault script number (State time device words) = state_fault script time words
-form_fault script number (Refused name word) = refusal_fault script number name word
+abbrev pub form_fault : Judged → List ℕ → ℕ → ExpectLine → Option (AtWord ExpectCause)
+form_fault who script number Other = None
+form_fault who script number (Rounds quantity window pattern) = or_fault (window_fault script number quantity window) (pattern_fault who quantity pattern)
+form_fault who script number (State time device words) = state_fault script time words
+form_fault who script number (Refused name word) = refusal_fault script number name word
 
 -- a name of a pattern that is not declared, and then one after it
 abbrev pub is_strange_name : List ℕ → Option NamedPattern → Bool
@@ -176,11 +190,11 @@ strange_at (Rounds quantity window pattern) = in_window quantity 4 Name
 strange_at (State time device words) = at_word 3 Name
 strange_at (Refused name word) = at_word 3 Name
 
-abbrev pub fault_by : List ℕ → List ℕ → ℕ → Option (List ℕ) → Result ExpectLine (AtWord ExpectCause) → Option (AtWord ExpectCause)
-fault_by topology script number label (Err fault) = Some (after_label label fault)
-fault_by topology script number label (Ok form) =
+abbrev pub fault_by : Judged → List ℕ → List ℕ → ℕ → Option (List ℕ) → Result ExpectLine (AtWord ExpectCause) → Option (AtWord ExpectCause)
+fault_by who topology script number label (Err fault) = Some (after_label label fault)
+fault_by who topology script number label (Ok form) =
     if is_strange topology form then Some (after_label label (strange_at form))
-    else if is_own_label script number label then option_map (after_label label) (form_fault script number form)
+    else if is_own_label script number label then option_map (after_label label) (form_fault who script number form)
     else Some (at_word 1 Label)
 
 -- what a line says without its label, which stands before no other line
@@ -188,18 +202,27 @@ abbrev pub labelled_form : Option (List ℕ) → List (List ℕ) → Result Expe
 labelled_form None words = form_in words
 labelled_form (Some name) words = if is_labelable words then form_in words else Err (at_word 0 Word)
 
--- why a line is refused, and its word at fault
-abbrev pub line_fault : List ℕ → List ℕ → ℕ → List ℕ → Option (AtWord ExpectCause)
-line_fault topology script number line = fault_by topology script number (label_in (words_of line)) (labelled_form (label_in (words_of line)) (unlabelled_words (words_of line)))
+-- why a line is refused, and its word at fault, by what is judged and the topology
+abbrev pub fault_on : Judged → List ℕ → List ℕ → ℕ → List ℕ → Option (AtWord ExpectCause)
+fault_on who topology script number line = fault_by who topology script number (label_in (words_of line)) (labelled_form (label_in (words_of line)) (unlabelled_words (words_of line)))
+
+-- of a line of expectations of a capture, which has no devices
+abbrev pub reading_fault : List ℕ → ℕ → List ℕ → Option (AtWord ExpectCause)
+reading_fault text number line = fault_on Capture [] text number line
 
 abbrev pub fault_or : ℕ → Option (AtWord ExpectCause) → Option (At ExpectCause) → Option (At ExpectCause)
 fault_or number None next = next
 fault_or number (Some fault) next = Some (at_line number fault)
 
 -- the first line at fault of these, of which the first has this number
-abbrev pub faults_from : List ℕ → List ℕ → ℕ → List (List ℕ) → Option (At ExpectCause)
-faults_from topology script number [] = None
-faults_from topology script number (line ∷ lines) = fault_or number (line_fault topology script number line) (faults_from topology script (number + 1) lines)
+abbrev pub faults_from : Judged → List ℕ → List ℕ → ℕ → List (List ℕ) → Option (At ExpectCause)
+faults_from who topology script number [] = None
+faults_from who topology script number (line ∷ lines) = fault_or number (fault_on who topology script number line) (faults_from who topology script (number + 1) lines)
 
+-- of a script for a topology
 abbrev pub first_fault : List ℕ → List ℕ → Option (At ExpectCause)
-first_fault topology script = faults_from topology script 1 (lines_of script)
+first_fault topology script = faults_from (Run (names_of topology)) topology script 1 (lines_of script)
+
+-- of expectations of a capture
+abbrev pub readings_fault : List ℕ → Option (At ExpectCause)
+readings_fault text = faults_from Capture [] text 1 (lines_of text)

@@ -1,5 +1,6 @@
 pub mod Fits
 pub mod Parts
+pub mod Senders
 pub mod StateWords
 pub mod StateTest
 pub mod Said

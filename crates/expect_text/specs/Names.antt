@@ -9,6 +9,7 @@ use Rattle.expect_text.specs.Form.{ExpectLine, form_in}
 use Rattle.expect_text.specs.Form.ExpectLine.{Other, Rounds, State, Refused}
 use Rattle.expect_text.specs.Line.{unlabelled_words}
 use Rattle.expect_text.specs.Said.{is_said}
+use Rattle.expect_text.specs.Senders.{Judged}
 use Rattle.text_core.specs.declared.at.AtWord.{AtWord}
 use Rattle.expect_text.specs.declared.form.ExpectCause.{ExpectCause}
 use Rattle.expect_text.specs.declared.named.NamedPattern.{NamedPattern as NamedRead}
@@ -103,19 +104,19 @@ unfoldable pub meets : List ℕ → List ℕ → Bool
 meets pattern text = for_names (holds_in (last_word text)) (λ p. fits p text) pattern
 
 -- the line of some round meets it, if the devices hold the right addresses
-unfoldable pub is_meetable : List ℕ → Bool
-is_meetable pattern = for_names (λ name b. true) is_said pattern
+unfoldable pub is_meetable : Judged → List ℕ → Bool
+is_meetable who pattern = for_names (λ name b. true) (is_said who) pattern
 
 -- The word at fault of a pattern that is met by no line: the first with which its front is. At this place, in the word of this
 -- number, these bytes are left.
-abbrev pub unmet_from : List ℕ → ℕ → ℕ → List ℕ → ℕ
-unmet_from pattern place number [] = number
-unmet_from pattern place number (b ∷ bs) =
-    if b == 32 then (if is_meetable (take place pattern) then unmet_from pattern (place + 1) (number + 1) bs else number)
-    else unmet_from pattern (place + 1) number bs
+abbrev pub unmet_from : Judged → List ℕ → ℕ → ℕ → List ℕ → ℕ
+unmet_from who pattern place number [] = number
+unmet_from who pattern place number (b ∷ bs) =
+    if b == 32 then (if is_meetable who (take place pattern) then unmet_from who pattern (place + 1) (number + 1) bs else number)
+    else unmet_from who pattern (place + 1) number bs
 
-abbrev pub unmet_word : List ℕ → ℕ
-unmet_word pattern = unmet_from pattern 0 0 pattern
+abbrev pub unmet_word : Judged → List ℕ → ℕ
+unmet_word who pattern = unmet_from who pattern 0 0 pattern
 
 -- ---- scripts with names
 

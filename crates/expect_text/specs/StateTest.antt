@@ -6,7 +6,7 @@ use Rattle.text_core.specs.Kind.{kind_named}
 use Rattle.expect_text.specs.Parts.{has}
 use Rattle.expect_text.specs.StateWords.{key, note_parts, number_parts, physical_parts, value_of}
 use Rattle.expect_text.specs.declared.part.PatternPart.{PatternPart}
-use Rattle.expect_text.specs.declared.part.PatternPart.TheVariants.{Byte, One, Many, Word, Opcode}
+use Rattle.expect_text.specs.declared.part.PatternPart.TheVariants.{Byte, One, Many, Word, Unworded, Opcode}
 use Rattle.expect_text.specs.declared.part.Class.TheVariants.{Hex}
 use Rattle.expect_text.specs.declared.state_words.StateField.{StateField}
 use Rattle.expect_text.specs.declared.state_words.StateField.TheVariants.{Active, Path, Deck, Menu, Audio, Volume, Mute, Arc, Selected, Language, Osd, Held, Heard, Sub, Queue, Dropped}
@@ -35,6 +35,7 @@ is_text (Byte b ∷ parts) text = by_one (λ x. x == b) (is_text parts) text
 is_text (One class ∷ parts) text = by_one (has class) (is_text parts) text
 is_text (Many class ∷ parts) text = by_many (has class) (is_text parts) text
 is_text (Word set ∷ parts) text = false
+is_text (Unworded kind ∷ parts) text = false
 is_text (Opcode code ∷ parts) text = false
 
 -- ---- words

@@ -1,13 +1,15 @@
 //! The first line of a script at fault.
-ghost use Rattle.std.specs.Prelude.{◌≡◌, ◌≤◌, IfErr, IfOk, IfSome};
+ghost use Rattle.std.specs.Prelude.{◌≡◌, ◌≤◌, map, IfErr, IfOk, IfSome};
 ghost use Rattle.std.specs.Option.{option_copied, option_map};
 ghost use Rattle.text_core.specs.Words.{words_after, words_of};
 ghost use Rattle.expect_text.specs.Fault.{IsNear, after_label};
 ghost use Rattle.expect_text.specs.Form.{IsForm, form_as, window_of};
 ghost use Rattle.expect_text.specs.Line.{unlabelled_words};
 ghost use Rattle.expect_text.specs.Names.{named_as};
+ghost use Rattle.expect_text.specs.Senders.{judged_as};
+ghost use Rattle.text_core.specs.Lines.{lines_of};
 ghost use Rattle.expect_text.specs.StateTest.{strange_word};
-ghost use Rattle.expect_text.specs.Faults.{declared_in, end_in, ends_before, first_fault, form_fault, has_strange_name, is_above, is_declared, is_line, is_named, is_own_label, is_past, is_refusal, is_strange, is_strange_name, labelled_form, line_fault, or_fault, pattern_fault, refusal_fault, refusal_word, state_fault, strange_at, strange_fault, window_fault};
+ghost use Rattle.expect_text.specs.Faults.{declared_in, end_in, ends_before, first_fault, fault_on, faults_from, form_fault, has_strange_name, is_above, is_declared, is_line, is_named, is_own_label, is_past, is_refusal, is_strange, is_strange_name, labelled_form, names_of, or_fault, pattern_fault, readings_fault, refusal_fault, refusal_word, state_fault, strange_at, strange_fault, window_fault};
 
 use crate::fault::after_label;
 use crate::form::{ExpectCause, ExpectLine, ExpectWindow, Quantity, form_in, in_window};
@@ -15,7 +17,9 @@ use crate::labels::Labels;
 use crate::line::{is_labelable, unlabelled};
 use crate::named::NamedPattern;
 use crate::names::{is_meetable, named_in, unmet_word};
+use crate::part::Judged;
 use crate::state_words::strange_word;
+use arrayvec::ArrayVec;
 use std::alloc::{AllocError, Global};
 use text_core::{At, AtWord, at_word, first_line, first_word, number_in};
 
@@ -66,6 +70,24 @@ fn declares(name: &[u8], line: &[u8]) -> bool
         None => false,
         Some(declared) => declared == name,
     }
+}
+
+// The devices that a topology declares, in its order.
+fn device_names(topology: &[u8]) -> ArrayVec<&[u8], 15>
+    ensures { map (λ n. n.now) result.items ≡ names_of topology.now }
+{
+    let mut names = ArrayVec::new();
+    let mut rest = topology;
+    'lines: while let Some((line, after)) = first_line(rest) {
+        if names.is_full() {
+            return names;
+        }
+        if let Some(name) = declared_in(line) {
+            names.push(name);
+        }
+        rest = after;
+    }
+    names
 }
 
 fn is_declared(topology: &[u8], name: &[u8]) -> bool
@@ -142,30 +164,31 @@ fn window_fault(
     }
 }
 
-fn pattern_fault(quantity: Quantity, pattern: &[u8]) -> Option<AtWord<ExpectCause>>
-    ensures value { result ≡ pattern_fault quantity pattern.now }
+fn pattern_fault(who: Judged<'_>, quantity: Quantity, pattern: &[u8]) -> Option<AtWord<ExpectCause>>
+    ensures value { result ≡ pattern_fault (judged_as who.entry) quantity pattern.now }
     ensures bounded { IfSome result IsNear }
 {
-    if is_meetable(pattern) {
+    if is_meetable(who, pattern) {
         None
     } else {
-        Some(in_window(quantity, 4 + unmet_word(pattern), ExpectCause::Unmet))
+        Some(in_window(quantity, 4 + unmet_word(who, pattern), ExpectCause::Unmet))
     }
 }
 
 fn rounds_fault(
+    who: Judged<'_>,
     labels: &Labels<'_>,
     number: u64,
     quantity: Quantity,
     window: ExpectWindow,
     pattern: &[u8],
 ) -> Option<AtWord<ExpectCause>>
-    ensures value { result ≡ or_fault (window_fault labels.now.script.now number quantity (window_of window.entry)) (pattern_fault quantity pattern.now) }
+    ensures value { result ≡ or_fault (window_fault labels.now.script.now number quantity (window_of window.entry)) (pattern_fault (judged_as who.entry) quantity pattern.now) }
     ensures bounded { IfSome result IsNear }
 {
     match window_fault(labels, number, quantity, window) {
         Some(fault) => Some(fault),
-        None => pattern_fault(quantity, pattern),
+        None => pattern_fault(who, quantity, pattern),
     }
 }
 
@@ -235,8 +258,13 @@ fn state_fault(script: &[u8], time: u64, words: &[u8]) -> Option<AtWord<ExpectCa
     }
 }
 
-fn form_fault(labels: &Labels<'_>, number: u64, form: ExpectLine) -> Option<AtWord<ExpectCause>>
-    ensures value { result ≡ form_fault labels.now.script.now number (form_as form.entry) }
+fn form_fault(
+    who: Judged<'_>,
+    labels: &Labels<'_>,
+    number: u64,
+    form: ExpectLine,
+) -> Option<AtWord<ExpectCause>>
+    ensures value { result ≡ form_fault (judged_as who.entry) labels.now.script.now number (form_as form.entry) }
     ensures bounded { IfSome result IsNear }
 {
     match form {
@@ -245,7 +273,7 @@ fn form_fault(labels: &Labels<'_>, number: u64, form: ExpectLine) -> Option<AtWo
             quantity,
             window,
             pattern,
-        } => rounds_fault(labels, number, quantity, window, pattern),
+        } => rounds_fault(who, labels, number, quantity, window, pattern),
         ExpectLine::State { time, words, .. } => state_fault(labels.script, time, words),
         ExpectLine::Refused { label, word } => refusal_fault(labels, number, label, word),
     }
@@ -324,13 +352,14 @@ fn labelled_form<'a>(
     form_in(rest)
 }
 
-fn line_fault(
+fn fault_on(
+    who: Judged<'_>,
     topology: &[u8],
     labels: &Labels<'_>,
     number: u64,
     line: &[u8],
 ) -> Option<AtWord<ExpectCause>>
-    ensures { result ≡ line_fault topology.now labels.now.script.now number line.now }
+    ensures { result ≡ fault_on (judged_as who.entry) topology.now labels.now.script.now number line.now }
 {
     let line = unlabelled(line);
     match labelled_form(line.label, line.rest) {
@@ -339,7 +368,7 @@ fn line_fault(
             if is_strange(topology, form) {
                 Some(after_label(line.label, strange_at(form)))
             } else if is_own_label(labels, number, line.label) {
-                any_after_label(line.label, form_fault(labels, number, form))
+                any_after_label(line.label, form_fault(who, labels, number, form))
             } else {
                 Some(at_word(1, ExpectCause::Label))
             }
@@ -347,20 +376,28 @@ fn line_fault(
     }
 }
 
-/// The first line at fault of a script whose labels are read, for a topology.
-pub fn fault_among(topology: &[u8], labels: &Labels<'_>) -> Option<At<ExpectCause>>
-    ensures { result ≡ first_fault topology.now labels.now.script.now }
+// The first line at fault, by what is judged.
+fn fault_in(who: Judged<'_>, topology: &[u8], labels: &Labels<'_>) -> Option<At<ExpectCause>>
+    ensures { result ≡ faults_from (judged_as who.entry) topology.now labels.now.script.now 1 (lines_of labels.now.script.now) }
 {
     let mut rest = labels.script;
     let mut number = 1u64;
     'lines: while let Some((line, after)) = first_line(rest) {
-        if let Some(fault) = line_fault(topology, labels, number, line) {
+        if let Some(fault) = fault_on(who, topology, labels, number, line) {
             return Some(fault.on_line(number));
         }
         rest = after;
         number += 1;
     }
     None
+}
+
+/// The first line at fault of a script whose labels are read, for a topology.
+pub fn fault_among(topology: &[u8], labels: &Labels<'_>) -> Option<At<ExpectCause>>
+    ensures { result ≡ first_fault topology.now labels.now.script.now }
+{
+    let names = device_names(topology);
+    fault_in(Judged::Run(&names), topology, labels)
 }
 
 /// The first line of a script for a topology whose label or expectation is at fault, and the word of the line as it is written.
@@ -377,4 +414,16 @@ pub fn first_fault(
 {
     let labels = Labels::new(alloc, script)?;
     Ok(fault_among(topology, &labels))
+}
+
+/// The same of expectations of a capture, which has no devices.
+///
+/// # Errors
+///
+/// Want of memory.
+pub fn readings_fault(alloc: Global, text: &[u8]) -> Result<Option<At<ExpectCause>>, AllocError>
+    ensures { IfOk result (λ fault. fault ≡ readings_fault text.now) }
+{
+    let labels = Labels::new(alloc, text)?;
+    Ok(fault_in(Judged::Capture, &[], &labels))
 }

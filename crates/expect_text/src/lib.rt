@@ -4,6 +4,7 @@
 mod fault;
 mod faults;
 mod form;
+mod hole;
 mod labels;
 mod laws;
 mod line;
@@ -16,7 +17,7 @@ mod said;
 mod state_words;
 
 pub use fault::after_label;
-pub use faults::{fault_among, first_fault};
+pub use faults::{fault_among, first_fault, readings_fault};
 pub use form::{
     ExpectCause, ExpectLine, ExpectWindow, Quantity, exact_number, form_in, is_pattern,
 };
@@ -28,6 +29,7 @@ pub use laws::{
 pub use line::{Labelled, cut_script, has_verb, onset_in, plain_part, plain_script, unlabelled};
 pub use named::NamedPattern;
 pub use names::{has_names, is_meetable, meets, named_in};
+pub use part::Judged;
 pub use pattern::fits;
 pub use range::RangeCause;
 pub use said::is_said;

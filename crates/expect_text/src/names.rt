@@ -5,11 +5,13 @@ ghost use Rattle.std.specs.Option.{option_copied, option_map};
 ghost use Rattle.text_core.specs.Lines.{lines_of};
 ghost use Rattle.expect_text.specs.Fits.{fits};
 ghost use Rattle.expect_text.specs.Said.{is_said};
+ghost use Rattle.expect_text.specs.Senders.{judged_as};
 ghost use Rattle.expect_text.specs.Names.{after_front, at_place, for_byte, for_first, has_name, has_names, holds_in, is_held_after, is_meetable, last_from, meets, name_length, named_after, named_as, named_in, unmet_from, unmet_word, with_byte};
 
 use crate::form::{ExpectLine, form_in};
 use crate::line::unlabelled;
 use crate::named::NamedPattern;
+use crate::part::Judged;
 use crate::pattern::fits;
 use crate::said::is_said;
 use arrayvec::ArrayVec;
@@ -189,49 +191,53 @@ pub fn meets(pattern: &[u8], text: &[u8]) -> bool
 // ---- patterns that some line meets
 
 // Whether a pattern can be met with one of these bytes in the place of the name.
-fn said_by(named: &NamedPattern<'_>, bytes: &[u8]) -> bool
-    ensures { result ≡ for_byte (λ name b. true) is_said (named_as named.now) bytes.now }
+fn said_by(who: Judged<'_>, named: &NamedPattern<'_>, bytes: &[u8]) -> bool
+    ensures { result ≡ for_byte (λ name b. true) (is_said (judged_as who.entry)) (named_as named.now) bytes.now }
 {
     match bytes {
         [] => false,
-        [byte, others @ ..] => is_said(&with_byte(named, *byte)) || said_by(named, others),
+        [byte, others @ ..] => {
+            is_said(who, &with_byte(named, *byte)) || said_by(who, named, others)
+        }
     }
 }
 
 #[tactic(auto, unfolding(crate::specs::Names::for_first))]
-fn said_first(pattern: &[u8]) -> bool
-    ensures { result ≡ for_first (λ name b. true) is_said pattern.now }
+fn said_first(who: Judged<'_>, pattern: &[u8]) -> bool
+    ensures { result ≡ for_first (λ name b. true) (is_said (judged_as who.entry)) pattern.now }
 {
     match named_in(pattern) {
-        None => is_said(pattern),
-        Some(named) => said_by(&named, ADDRESSES),
+        None => is_said(who, pattern),
+        Some(named) => said_by(who, &named, ADDRESSES),
     }
 }
 
 // The same of a pattern that has another name after that one.
-fn meetable_by(named: &NamedPattern<'_>, bytes: &[u8]) -> bool
-    ensures { result ≡ for_byte (λ name b. true) (for_first (λ name b. true) is_said) (named_as named.now) bytes.now }
+fn meetable_by(who: Judged<'_>, named: &NamedPattern<'_>, bytes: &[u8]) -> bool
+    ensures { result ≡ for_byte (λ name b. true) (for_first (λ name b. true) (is_said (judged_as who.entry))) (named_as named.now) bytes.now }
 {
     match bytes {
         [] => false,
-        [byte, others @ ..] => said_first(&with_byte(named, *byte)) || meetable_by(named, others),
+        [byte, others @ ..] => {
+            said_first(who, &with_byte(named, *byte)) || meetable_by(who, named, others)
+        }
     }
 }
 
 /// Whether a pattern can be met: by what the line of some round says, with some address in the place of each name.
 #[tactic(auto, unfolding(crate::specs::Names::is_meetable))]
-pub fn is_meetable(pattern: &[u8]) -> bool
-    ensures { result ≡ is_meetable pattern.now }
+pub fn is_meetable(who: Judged<'_>, pattern: &[u8]) -> bool
+    ensures { result ≡ is_meetable (judged_as who.entry) pattern.now }
 {
     match named_in(pattern) {
-        None => is_said(pattern),
-        Some(named) => meetable_by(&named, ADDRESSES),
+        None => is_said(who, pattern),
+        Some(named) => meetable_by(who, &named, ADDRESSES),
     }
 }
 
 /// The word at fault of a pattern that no line meets, counted from 0: the first with which its front is met by none.
-pub(crate) fn unmet_word(pattern: &[u8]) -> usize
-    ensures value { result ≡ unmet_word pattern.now }
+pub(crate) fn unmet_word(who: Judged<'_>, pattern: &[u8]) -> usize
+    ensures value { result ≡ unmet_word (judged_as who.entry) pattern.now }
     ensures bounded { result < 2 ^ 63 }
 {
     let mut rest = pattern;
@@ -239,7 +245,7 @@ pub(crate) fn unmet_word(pattern: &[u8]) -> usize
     let mut number = 0usize;
     'bytes: while let [byte, others @ ..] = rest {
         if *byte == b' ' {
-            if !is_meetable(before(pattern, place)) {
+            if !is_meetable(who, before(pattern, place)) {
                 return number;
             }
             number += 1;

@@ -165,7 +165,9 @@ fn is_text(parts: &[PatternPart], text: &[u8]) -> bool
                 is_text(others, text) || (has(*class, *byte) && is_text(parts, rest))
             }
         },
-        [PatternPart::Word(_), ..] | [PatternPart::Opcode(_), ..] => false,
+        [PatternPart::Word(_), ..]
+        | [PatternPart::Unworded(_), ..]
+        | [PatternPart::Opcode(_), ..] => { false }
     }
 }
 
