@@ -775,7 +775,7 @@ def keys_reach_all(t, b):
     text = b.js("testing.app.exportedText")
     parsed = f"new DOMParser().parseFromString({json.dumps(text)}, 'image/svg+xml')"
     is_whole = b.js(f"{parsed}.querySelectorAll('parsererror').length === 0")
-    t.same("the exported SVG is well formed", [text[:4], is_whole], ["<svg", True])
+    t.same("the exported SVG is well formed, and has the chart's rules alone", [text[:4], is_whole, "@media" in text], ["<svg", True, False])
     b.js("testing.app.copyMermaid()")
     t.holds("Mermaid", "L0->>L4: give-osd-name ack" in b.js("testing.app.exportedText"),
             b.js("testing.app.exportedText.slice(0, 600)"))
@@ -795,6 +795,7 @@ def searches_find(t, b):
              "to:all": lambda one: one.get("destination") == "f",
              "to:all not from:amp": lambda one: one.get("destination") == "f" and "amp" not in one["by"],
              "t:3.1..3.2": lambda one: one["close"] >= 3100000 and one["begin"] <= 3200000,
+             "t:3.12..3.15": lambda one: one["close"] >= 3120000 and one["begin"] <= 3150000,
              "t:..0.5": lambda one: one["begin"] <= 500000,
              "t:0.05": lambda one: page_values.seconds(one["begin"]).startswith("0.05"),
              "0.0507": lambda one: "0.0507" in page_values.seconds(one["begin"]),

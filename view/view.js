@@ -448,7 +448,7 @@ class App {
     const rules = [...document.styleSheets].flatMap(sheet => [...sheet.cssRules]).map(rule => rule.cssText);
     const isDark = document.documentElement.dataset.theme === 'dark';
     const colours = rules.find(rule => rule.startsWith(isDark ? ':root[data-theme' : ':root {')).replace(/^[^{]*/, 'svg ');
-    const ofChart = rules.filter(rule => rule.includes('chart') && !rule.startsWith('#'));
+    const ofChart = rules.filter(rule => rule.includes('chart') && !/^[#@]/.test(rule));
     const before = [this.selected, this.banded];
     this.selected = this.banded = null;
     const picture = this.chart.exported([colours, 'text { font-family: monospace }', ...ofChart].join('\n'));
