@@ -115,8 +115,9 @@ def is_found(plant, browser, program):
         environment = {**os.environ, "HDMINET": os.path.abspath(program), "TMPDIR": made, "PYTHONDONTWRITEBYTECODE": "1"}
         done = subprocess.run([sys.executable, os.path.join(room, "tests/page.py"), browser, made, test], env=environment,
                               capture_output=True, text=True, check=False)
-        # A page that does not even load shows nothing: that is no fault of the kind that is planted.
-        return done.returncode == 1 and "RuntimeError" not in done.stdout and "not ok: " in done.stdout, done.stdout
+        # A page that does not even load shows nothing: some value has to differ.
+        failed = [line for line in done.stdout.splitlines() if line.startswith("not ok: ")]
+        return done.returncode == 1 and any("Error" not in line for line in failed), done.stdout
     finally:
         shutil.rmtree(room, ignore_errors=True)
 

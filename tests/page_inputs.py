@@ -58,6 +58,16 @@ def hostile_inputs(program, room):
              out={"device": 1}, bits=7),
         line(type="state", device=None, logical_addresses=5, kind={}), line(type="test", test="a", holds="yes", expectation=5),
         line(type="window"), line(type="stretch", holds=3)])]
+    yield "a room that hangs below itself", ["\n".join([
+        *(line(type="device", device=name, kind=MARKUP) for name in ("a", "b", MARKUP)),
+        line(type="plug", device="a", parent="b", port=1), line(type="plug", device="b", parent="a", port=MARKUP),
+        line(type="plug", device=MARKUP, parent=MARKUP, port=1), line(**complete, line="r", by=["a"], out=[]),
+        line(line="= 5", type="horizon", at="x"), line(line="= state a", type="state", device="a", logical_addresses=5),
+        line(line="= 5", type="horizon", at=5), line(line="= state", type="state", device=MARKUP, physical_address=MARKUP),
+        line(line=f"= state {MARKUP}", type="state", device=MARKUP, kind=MARKUP, logical_addresses=[MARKUP], heard=MARKUP,
+             active_source={"a": MARKUP}, physical_address="0.0.0.0", deck=MARKUP, osd_text=MARKUP),
+        line(line=MARKUP, type="remark", remark=MARKUP, section=MARKUP, attempt="x"), line(type="note", note=5, attempt=-1)])]
+    yield "rules of no EDID", [f"fail {MARKUP}\n  {MARKUP}\n  here: {MARKUP}\n", f"warn x\n{MARKUP}\n"]
     yield "huge times", ["\n".join([line(**{**complete, "begin": -1e300, "close": 1e300}, by=["a"], out=[]),
                                     line(type="round", line="a", begin=1e15, close=1, ending="short", bits="0", by=[], out=[])])]
     yield "a plain trace", ["12000 39150 complete 0>0 nack by tv out -\n"]
