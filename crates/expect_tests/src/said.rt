@@ -1,6 +1,7 @@
 //! Patterns that no round's line can meet, and words that no state line has.
 use crate::cases::holds;
 use expect_text::{Judged, is_said, is_state_word};
+use std::process::Abort;
 
 /// A run of a television and two players.
 const ROOM: Judged<'static> = Judged::Run(&[b"tv", b"p1", b"p2"]);
@@ -158,7 +159,7 @@ bad-start 0
 4>f active-source :1000
 "#;
 
-fn all_are(who: Judged<'static>, patterns: &str, wanted: bool, rt: &HostRuntime) {
+fn all_are(who: Judged<'static>, patterns: &str, wanted: bool, rt: &impl Abort) {
     for pattern in patterns.lines() {
         holds(rt, is_said(who, pattern.as_bytes()) == wanted, pattern);
     }
