@@ -1,3 +1,4 @@
 pub mod Answering
 pub mod More
 pub mod Zeros
+pub mod Noting

@@ -11,9 +11,15 @@ use Rattle.edid_merge.specs.declared.table.Table.{Table}
 use Rattle.edid_merge.specs.declared.table.Whose.{Whose}
 use Rattle.edid_merge.specs.declared.table.Whose.TheVariants.{Keep, Own}
 
+abbrev pub name_note : List ℕ → List ℕ
+name_note chars = codes "hdminet: passed over name \"" ++ chars ++ codes "\"\n"
+
+abbrev pub serial_note : List ℕ → List ℕ
+serial_note chars = codes "hdminet: passed over serial-text \"" ++ chars ++ codes "\"\n"
+
 abbrev pub descriptor_note : Descriptor → List ℕ
-descriptor_note (Name text) = codes "hdminet: passed over name \"" ++ text.chars.items ++ codes "\"\n"
-descriptor_note (SerialText text) = codes "hdminet: passed over serial-text \"" ++ text.chars.items ++ codes "\"\n"
+descriptor_note (Name text) = name_note text.chars.items
+descriptor_note (SerialText text) = serial_note text.chars.items
 descriptor_note (Timing timing) = []
 descriptor_note (Text text) = []
 descriptor_note (Range limits) = []

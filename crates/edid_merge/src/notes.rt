@@ -3,7 +3,7 @@ ghost use Rattle.std.specs.Prelude.{◌≡◌, ℕ, List, drop};
 ghost use Rattle.text_core.specs.Adds.{Adds};
 ghost use Rattle.text_core.specs.Cut.{WrittenText};
 ghost use Rattle.edid_merge.specs.Labels.{labelled, unplaced};
-ghost use Rattle.edid_merge.specs.Notes.{IsNoted, IsNotes, descriptor_note, descriptor_notes, product_notes};
+ghost use Rattle.edid_merge.specs.Notes.{IsNoted, IsNotes, descriptor_note, descriptor_notes, name_note, product_notes, serial_note};
 
 use crate::labels::{Label, is_labelled, label_count};
 use crate::repeater::{merge, one_edid};
@@ -12,21 +12,33 @@ use edid_base::Descriptor;
 use edid_core::Edid;
 use text_core::{Counted, Piece, Sink, WriteFault};
 
+fn add_name<S: Sink>(chars: &[u8], out: &mut Counted<'_, S>)
+    ensures { Adds out.old out.new (name_note chars.now) }
+{
+    out.add_line(&[
+        Piece::Text("hdminet: passed over name \""),
+        Piece::Bytes(chars),
+        Piece::Text("\"\n"),
+    ]);
+}
+
+fn add_serial<S: Sink>(chars: &[u8], out: &mut Counted<'_, S>)
+    ensures { Adds out.old out.new (serial_note chars.now) }
+{
+    out.add_line(&[
+        Piece::Text("hdminet: passed over serial-text \""),
+        Piece::Bytes(chars),
+        Piece::Text("\"\n"),
+    ]);
+}
+
 #[tactic(auto, using(text_core::proofs::Adding::nothing))]
 fn add_note<S: Sink>(descriptor: &Descriptor, out: &mut Counted<'_, S>)
     ensures { Adds out.old out.new (descriptor_note descriptor.now) }
 {
     match descriptor {
-        Descriptor::Name(text) => out.add_line(&[
-            Piece::Text("hdminet: passed over name \""),
-            Piece::Bytes(text.chars.as_slice()),
-            Piece::Text("\"\n"),
-        ]),
-        Descriptor::SerialText(text) => out.add_line(&[
-            Piece::Text("hdminet: passed over serial-text \""),
-            Piece::Bytes(text.chars.as_slice()),
-            Piece::Text("\"\n"),
-        ]),
+        Descriptor::Name(text) => add_name(text.chars.as_slice(), out),
+        Descriptor::SerialText(text) => add_serial(text.chars.as_slice(), out),
         _ => {}
     }
 }

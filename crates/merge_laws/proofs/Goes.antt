@@ -13,7 +13,7 @@ use Rattle.edid_merge.specs.declared.subject.Subject.{Subject}
 
 -- ---- the block that bytes begin with
 
-append_same : (xs zs ys ws : List ℕ) → length xs ≡ length zs → xs ++ ys ≡ zs ++ ws → (xs ≡ zs) × (ys ≡ ws)
+pub append_same : (xs zs ys ws : List ℕ) → length xs ≡ length zs → xs ++ ys ≡ zs ++ ws → (xs ≡ zs) × (ys ≡ ws)
 append_same [] [] ys ws l e = (refl, e)
 append_same [] (z ∷ zs) ys ws l e = absurd (omega arith)
 append_same (x ∷ xs) [] ys ws l e = absurd (omega arith)

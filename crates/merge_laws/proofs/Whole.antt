@@ -38,7 +38,7 @@ of_numbers numbers.Least ws s d o keeps = first_two s ws d o keeps
 three : (x y z r : List ℕ) → (x ++ (y ++ z)) ++ r ≡ x ++ (y ++ (z ++ r))
 three x y z r = append_assoc x (y ++ z) r ∙ ap (λ (k : List ℕ). x ++ k) (append_assoc y z r)
 
-in_a_row : (t : Table) (d o : List DataBlock)
+pub in_a_row : (t : Table) (d o : List DataBlock)
     → merged_blocks t d o ≡ by_row t Video d o ++ (by_row t Audio d o ++ (by_row t Speakers d o ++ (by_row t Hdmi d o ++ (by_row t Forum d o ++ (by_row t Capability d o ++ (
     by_row t Colorimetry d o ++ (by_row t Hdr d o ++ (by_row t MakerVideo d o ++ (by_row t MakerAudio d o ++ by_row t Other d o)))))))))
 unfolding merged_blocks
