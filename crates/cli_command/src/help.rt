@@ -733,7 +733,8 @@ display's; own, the receiver's; and, the bits that both have; least, these and t
   maker-video keep  keep, own              as that of Dolby Vision, and dynamic HDR
   maker-audio own  keep, own               as that of Dolby, rooms and places of speakers
   other keep       keep, own
-The timings of the extension stay as far as they have room. The other extensions are the display's:
+The timings of the extension stay as far as they have room. The other extensions are the display's. A name
+or serial number of the receiver's that has no place is named on standard error:
   cat tv.edid receiver.edid | ./hdminet edid --merge --raw > answer.edid
   cat tv.edid receiver.edid | ./hdminet edid --merge --rows video=own,hdr=keep
 
