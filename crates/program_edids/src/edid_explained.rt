@@ -167,7 +167,10 @@ pub fn name_read<E: Sink>(alloc: Global, choice: CommandChoice, input: &[u8], er
     match source {
         Source::Dump { nth } => name_one(nth, input, err),
         Source::Pair { dumps: true, table } => name_dumps(&table, input, err),
-        Source::Pair { dumps: false, table } => name_halves(&table, input, err),
+        Source::Pair {
+            dumps: false,
+            table,
+        } => name_halves(&table, input, err),
         Source::Bytes | Source::Text | Source::Words => {}
     }
     if let EdidReading::AsSource = reading {

@@ -161,7 +161,9 @@ fn passed_over(rt: &(impl Abort + AllocGlobal), descriptors: &str) -> String {
     if descriptors != "-" {
         for line in descriptors.split('/') {
             let quoted = line.replace(rt.alloc(), '\'', "\"").expect(rt, "quotes");
-            let note = format!(in rt.alloc(); "hdminet: passed over {quoted}\n").expect(rt, "a note");
+            let note = format!(in rt.alloc(); "hdminet: passed over {quoted}\n").expect(
+                rt, "a note",
+            );
             notes.push_str(note.as_str()).expect(rt, "notes");
         }
     }
