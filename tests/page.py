@@ -1235,6 +1235,12 @@ def files_may_be_dropped(t, b):
                                ("x.net", room, [6, True, True, 0, 0]), ("x.meaning", meaning, [6, True, True, 1, 0])]:
         drop(name, text)
         t.same(f"dropped: {name}", b.js(there), wanted)
+    # A session of `live` as it is: what it showed of its devices is so from then on
+    lines = LOOSE.rstrip("\n").split("\n")
+    session = "\n".join([*lines[:-1], "run to 1000000", "show p1", "run to 3700000", "show p1", lines[-1], ""])
+    drop("session.jsonl", program(session, "live", "--json"))
+    t.same("a session", b.js("(m => [m.rounds.length, m.faults, m.lanes[1].history.map(one => [one.logical, one.isJoined])])(testing.app.model)"),
+           [sum(" complete " in line for line in program(LOOSE, "run").splitlines()), [], [["4", True], ["", False]]])
     objects = json.dumps(program(example("four-players.net"), "run", "--json"))
     b.js(f"(() => {{ const data = new DataTransfer(); data.setData('text', {objects});"
          " document.dispatchEvent(new ClipboardEvent('paste', { clipboardData: data, bubbles: true })); })()")
