@@ -1,6 +1,8 @@
 #!/usr/bin/env python3
 """page.py BROWSER ROOM: the tests of tests/page.sh. ROOM is a folder for what they make; HDMINET names the program."""
 import http.client
+import importlib.machinery
+import importlib.util
 import json
 import os
 import random
@@ -1233,6 +1235,12 @@ def files_may_be_dropped(t, b):
                                ("x.net", room, [6, True, True, 0, 0]), ("x.meaning", meaning, [6, True, True, 1, 0])]:
         drop(name, text)
         t.same(f"dropped: {name}", b.js(there), wanted)
+    # A session of `live` as it is: what it showed of its devices is so from then on
+    lines = LOOSE.rstrip("\n").split("\n")
+    session = "\n".join([*lines[:-1], "run to 1000000", "show p1", "run to 3700000", "show p1", lines[-1], ""])
+    drop("session.jsonl", program(session, "live", "--json"))
+    t.same("a session", b.js("(m => [m.rounds.length, m.faults, m.lanes[1].history.map(one => [one.logical, one.isJoined])])(testing.app.model)"),
+           [sum(" complete " in line for line in program(LOOSE, "run").splitlines()), [], [["4", True], ["", False]]])
     objects = json.dumps(program(example("four-players.net"), "run", "--json"))
     b.js(f"(() => {{ const data = new DataTransfer(); data.setData('text', {objects});"
          " document.dispatchEvent(new ClipboardEvent('paste', { clipboardData: data, bubbles: true })); })()")
@@ -1334,6 +1342,37 @@ def attempts_are_the_audits(t, b):
         show(b, written(name, f"device tv tv 4\nscript\n{pulls}end 9000000\n"))
         shown = b.js("testing.app.model.rows.filter(row => row.type === 'round' && row.at >= 4000000).map(row => row.attempt)")
         t.same(name, shown, wanted)
+
+
+def tool_is_imported(t, b):
+    """tools/page as a module: the times and levels of captures, and the flags that a line of the program advises, by hand
+    (docs/captures.md)."""
+    loader = importlib.machinery.SourceFileLoader("page", os.path.join(TOP, "tools/page"))
+    tool = importlib.util.module_from_spec(importlib.util.spec_from_loader("page", loader))
+    loader.exec_module(tool)
+    day = tool.csv_time("2026-11-26T16:00:00.060000000+00:00")
+    t.same("times", [tool.csv_time("0.012000000"), tool.csv_time("12"), tool.csv_time("-0.5"),
+                     tool.csv_time("2026-11-26T16:00:01.5Z") - day, tool.csv_time("2026-11-26T18:00:00.07+02:00") - day],
+           [12000000, 12000000000, -500000000, 1440000000, 10000000])
+    # Finer times are rounded up; of several in a microsecond the last counts; a level that comes again is no edge
+    levels = [(0, 1), (12000001, 0), (12000900, 1), (13000000, 1), (15000000, 0), (15000100, 1), (15000200, 0), (16000000, 0)]
+    t.same("levels", tool.edges_text(levels), b"15000 0\n16000 end\n")
+    pin = b"# cec-ctl --store-pin\n# start_monotonic 10.000000000\n10.000000000 1\n10.012000000 0\n10.013000000 65536\n10.0157 9\n"
+    t.same("pin events", list(tool.pin_edges(pin)), [(0, 1), (12000000, 0), (13000000, 0)])
+    csv = b"Time [s],SDA,CEC\r\n-1.0,1,1\r\n-0.988,1,0\r\n-0.9843,1,1\r\n"
+    t.same("another column", list(tool.csv_edges(csv, "CEC")), [(0, 1), (12000000, 0), (15700000, 1), (25700000, 1)])
+    for line, given, wanted in [
+            ("the first wire has no edge, --signal takes one of SDA, CEC", [], [["--signal", "SDA"], ["--signal", "CEC"]]),
+            ("--margin 200 reads 3 frames more", ["--invert"], [["--invert", "--margin", "200"]]),
+            ("9 pulses and gaps are shorter than 100 microseconds, --glitch 100 passes over them", [], [["--glitch", "100"]]),
+            ("the line is low most of the time, --invert reads it the other way round", [], [["--invert"]]),
+            ("with --invert the line is low most of the time", ["--margin", "9", "--invert"], [["--margin", "9"]]),
+            ("events were lost before line 3", [], [])]:
+        t.same(f"advice: {line}", tool.advised(line, given), wanted)
+    # Bytes that are no UTF-8, and characters that end lines elsewhere, in the lines that are passed over
+    room = LOOSE.encode().replace(b"script\n", "script\n# \u0085 \u2028\n".encode() + b"# \xff\x0c\n\n")
+    pages, _ = tool.texts_of("x.net", room, [])
+    t.holds("states of a room with odd bytes", b'"device":"p2"' in dict(pages[0]["texts"])["states"])
 
 
 def pages_are_made(t, b):
@@ -1506,7 +1545,7 @@ def sources_are_plain(t, _):
 ALL = [sources_are_plain, verdicts_are_drawn, colours_differ, retries_are_folded, wave_is_drawn, other_lines_are_noticed,
        capture_is_drawn, advice_is_shown, attempts_are_the_audits, words_are_the_standards, reports_are_shown, values_of_an_evening,
        values_of_retries, values_of_a_loose_device, values_of_a_capture, failures_are_drawn, keys_reach_all, searches_find, other_sizes_fit, runs_stand_beside, live_page_runs, live_server_is_careful, mouse_works, hostile_inputs_are_harmless,
-       inferences_are_the_programs, sentences_are_the_programs, dumps_are_read, files_may_be_dropped, pages_are_made,
+       inferences_are_the_programs, sentences_are_the_programs, dumps_are_read, tool_is_imported, files_may_be_dropped, pages_are_made,
        examples_have_pages,
        long_runs_are_fast]
 

@@ -85,6 +85,7 @@ export function addWave(model, { name, text, how }) {
 
 /* What was inferred, against what the program says at the end: a disagreement is a note. */
 function compareWithStates(model) {
+  if (model.changes.length > 0) return; // nothing was inferred
   for (const state of model.states) {
     const lane = model.lanes[model.laneOf.get(state.device)];
     const said = state.logical.filter(Boolean).join('+');
