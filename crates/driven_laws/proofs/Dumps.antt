@@ -59,8 +59,8 @@ stands_started tree pulses order = record {
 }
 
 -- where its dump ends
-abbrev end_of : (topology script text : List ℕ) (totals : Totals) → IsDrivesOf topology script text totals → ℕ
-end_of topology script text totals p = max p.course.end p.driven.run.at_end.net.close
+abbrev dump_end : (topology script text : List ℕ) (totals : Totals) → IsDrivesOf topology script text totals → ℕ
+dump_end topology script text totals p = max p.course.end p.driven.run.at_end.net.close
 
 reported_of : (topology script text : List ℕ) (totals : Totals) → (p : IsDrivesOf topology script text totals)
     → Told (length p.plan.tree) p.course.end 0 (rounds_of topology script text totals p) p.driven.run.body p.driven.run.at_end
@@ -142,7 +142,7 @@ rounds_are_the_traces topology script x y s t p q =
 
 -- ---- the dump is one of several wires
 
-soon : (topology script text : List ℕ) (totals : Totals) → (p : IsDrivesOf topology script text totals) → end_of topology script text totals p ≤ latest_instant
+soon : (topology script text : List ℕ) (totals : Totals) → (p : IsDrivesOf topology script text totals) → dump_end topology script text totals p ≤ latest_instant
 soon topology script text totals p =
     let sound = scripts_are_sound p.plan.tree script p.course p.accepted.course_is in
     let limit = sound.limit in
@@ -155,10 +155,10 @@ abbrev spans_in : (topology script text : List ℕ) (totals : Totals) → IsDriv
 spans_in topology script text totals p = map span_of (rounds_of topology script text totals p)
 
 dump_is : (topology script text : List ℕ) (totals : Totals) → (p : IsDrivesOf topology script text totals)
-    → text ≡ dump_of (names_in p.plan.tree) (spans_in topology script text totals p) (end_of topology script text totals p)
+    → text ≡ dump_of (names_in p.plan.tree) (spans_in topology script text totals p) (dump_end topology script text totals p)
 dump_is topology script text totals p =
     p.driven.whole ∙ ap₂ (λ names rest. head names ++ rest) (names_started p.plan.tree p.course.pulses)
-    (p.driven.run.whole ∙ ap (λ body. body ++ last (end_of topology script text totals p)) (reported_of topology script text totals p).whole)
+    (p.driven.run.whole ∙ ap (λ body. body ++ last (dump_end topology script text totals p)) (reported_of topology script text totals p).whole)
 
 -- ---- whose wires are low
 
@@ -305,8 +305,8 @@ dumps_report_drives topology script text totals p =
     let reported = reported_of topology script text totals p in
     let rs = rounds_of topology script text totals p in
     subst (ReportsDrives (names_in p.plan.tree) rs) (sym (dump_is topology script text totals p))
-    (reports p.plan.tree rs (dump_of (names_in p.plan.tree) (spans_in topology script text totals p) (end_of topology script text totals p)) reported.ruled reported.seated
-    (dumps_report_their_wires (names_in p.plan.tree) (spans_in topology script text totals p) (end_of topology script text totals p) (names_are_words topology p.plan p.accepted.plan_is) reported.spans
+    (reports p.plan.tree rs (dump_of (names_in p.plan.tree) (spans_in topology script text totals p) (dump_end topology script text totals p)) reported.ruled reported.seated
+    (dumps_report_their_wires (names_in p.plan.tree) (spans_in topology script text totals p) (dump_end topology script text totals p) (names_are_words topology p.plan p.accepted.plan_is) reported.spans
     (soon topology script text totals p)))
 
 pub texts_have_drives : TextsHaveDrives
@@ -332,12 +332,12 @@ record HasLine (os : List Outcome) (end : ℕ) (text : List ℕ) : Type 0 where
   capture : IsCapture captured.edges captured.end
 
 has_line : (topology script text : List ℕ) (totals : Totals) → (p : IsDrivesOf topology script text totals)
-    → HasLine (outcomes (rounds_of topology script text totals p)) (end_of topology script text totals p) (line_of_run topology script text totals p)
+    → HasLine (outcomes (rounds_of topology script text totals p)) (dump_end topology script text totals p) (line_of_run topology script text totals p)
 has_line topology script text totals p =
     let sound = scripts_are_sound p.plan.tree script p.course p.accepted.course_is in
     let q = its_line topology script text totals p in
     let k = lines_are_of_the_rounds Vcd p.plan.tree p.course.pulses p.course.events p.course.end (line_of_run topology script text totals p) totals sound.timely.order sound.framed q.line in
-    let end = end_of topology script text totals p in
+    let end = dump_end topology script text totals p in
     let os = outcomes (rounds_of topology script text totals p) in
     let waves = map (λ (o : Outcome). o.wave) os in
     let same = its_rounds topology script text totals p in
@@ -362,9 +362,9 @@ dumps_are_read_as_lines topology script x y s t p q =
     let text : y ≡ line_of_run topology script x s p = (texts_have_one_line Vcd topology script y (line_of_run topology script x s p) t s q (its_line topology script x s p)).0 in
     let names = names_are_words topology p.plan p.accepted.plan_is in
     let low = soon topology script x s p in
-    let first = dumps_are_read_as_the_line [] (names_in p.plan.tree) (spans_in topology script x s p) (end_of topology script x s p) (inl refl) names reported.spans low in
-    let named = dumps_are_read_as_the_line (codes "CEC") (names_in p.plan.tree) (spans_in topology script x s p) (end_of topology script x s p) (inr refl) names reported.spans low in
-    let same : (c : Captured) → ReportsLine (spans_in topology script x s p) (end_of topology script x s p) c → c ≡ line.captured = (λ c h.
+    let first = dumps_are_read_as_the_line [] (names_in p.plan.tree) (spans_in topology script x s p) (dump_end topology script x s p) (inl refl) names reported.spans low in
+    let named = dumps_are_read_as_the_line (codes "CEC") (names_in p.plan.tree) (spans_in topology script x s p) (dump_end topology script x s p) (inr refl) names reported.spans low in
+    let same : (c : Captured) → ReportsLine (spans_in topology script x s p) (dump_end topology script x s p) c → c ≡ line.captured = (λ c h.
     same_captures c line.captured h.capture line.capture (λ u. h.line u ∙ whole_line u rs ∙ sym (line.line u)) (h.end_is ∙ sym line.end_is)) in
     let dump = dump_is topology script x s p in (
       line.captured,
