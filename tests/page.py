@@ -972,6 +972,7 @@ def live_page_runs(t, b):
         t.same("an answer that comes late is ignored", b.js("testing.app.model.rounds.filter(o => o.begin >= 1000000)[0].begin"), 1300000)
         t.same("nothing else is asked", [fault for fault in b.faults() if not fault.startswith(f"network: {live.address}")], [])
     finally:
+        b.open(BARE)  # else the page asks for its server again and again
         live.end()
     capture = Live(written("live.vcd", as_dump([line.split() for line in program(RETRIES, "run", "--edges").splitlines()], inverted=True)))
     try:
@@ -979,6 +980,7 @@ def live_page_runs(t, b):
         t.holds("a capture is read best", until(b, "hdminet.app.model.rounds.some(o => o.ending === 'complete')"))
         t.same("its flags are fields", b.js("document.querySelector('#source .flags').hidden"), False)
     finally:
+        b.open(BARE)
         capture.end()
 
 
@@ -1027,6 +1029,7 @@ def live_server_is_careful(t, b):
             t.holds(f"a stream: {count} rows", until(b, f"hdminet.app.model.rounds.length === {count}"))
         stream.process.stdin.close()
     finally:
+        b.open(BARE)
         stream.end()
 
 
