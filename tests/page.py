@@ -1396,7 +1396,7 @@ def pages_are_made(t, b):
     subprocess.run([os.path.join(TOP, "tools/page"), "-o", out], input=example("wrong-film.test").encode(), check=True)
     b.open(out)
     t.same("a test on standard input is run", b.js("[hdminet.app.model.rounds.length, hdminet.app.model.tests.length]"), [6, 3])
-    done = subprocess.run([os.path.join(TOP, "tools/page"), written("words.txt", "4>f standby?\n"), "-o", missing],
+    done = subprocess.run([os.path.join(TOP, "tools/page"), written("words.txt", "what is this\n"), "-o", missing],
                           capture_output=True, check=False)
     t.same("a text of no kind is nothing to look at", [done.returncode, os.path.exists(missing), b"is no room" in done.stderr], [1, False, True])
     for name, text in [("plain.trace", example("first-path.trace")), ("plain.readings", example("capture.readings")),
