@@ -11,7 +11,12 @@ HDMINET_LIBRARY says, beside this file, in ../lib of it, and where the system ke
 
 import ctypes
 import ctypes.util
+import functools
+import inspect
+import operator
 import os
+import re
+import sys
 from collections import namedtuple
 
 __all__ = ["Error", "Findings", "Reading", "Receiver", "Report", "Sender", "check", "edid_bytes", "edid_check", "edid_fault",
@@ -38,6 +43,7 @@ CODES = {
 DONE, ROOM, ABSENT = 0, 1, 4
 FATES = (None, "delivered", "unacked", "lost", "broken")
 ENDINGS = (None, "complete", "short", "silent", "bad-start", "long", "open")
+MOST_BITS = 160
 
 
 class Error(ValueError):
@@ -54,7 +60,7 @@ class _Answer(ctypes.Structure):
 
 class _Receiver(ctypes.Structure):
     _fields_ = [("was_low", ctypes.c_bool), ("is_low", ctypes.c_bool), ("place", ctypes.c_uint8), ("count", ctypes.c_uint8),
-                ("begin", ctypes.c_uint64), ("fall", ctypes.c_uint64), ("bits", ctypes.c_bool * 160)]
+                ("begin", ctypes.c_uint64), ("fall", ctypes.c_uint64), ("bits", ctypes.c_bool * MOST_BITS)]
 
 
 class _Sender(ctypes.Structure):
@@ -64,7 +70,7 @@ class _Sender(ctypes.Structure):
 
 class _Reading(ctypes.Structure):
     _fields_ = [("begin", ctypes.c_uint64), ("at", ctypes.c_uint64), ("ending", ctypes.c_uint8), ("count", ctypes.c_uint8),
-                ("bits", ctypes.c_bool * 160)]
+                ("bits", ctypes.c_bool * MOST_BITS)]
 
 
 class _Heard(ctypes.Structure):
@@ -133,6 +139,84 @@ for _name, (_result, _parameters) in _CALLS.items():
         _call.restype, _call.argtypes = _result, _parameters
 
 
+def _is_number(value):
+    try:
+        operator.index(value)
+    except TypeError:
+        return False
+    return True
+
+
+def _number(name, value, most):
+    if not _is_number(value):
+        raise TypeError("%s is a whole number of 0 to %d, and not %r" % (name, most, value))
+    number = operator.index(value)
+    if not 0 <= number <= most:
+        raise ValueError("%s is 0 to %d, and not %d" % (name, most, number))
+    return number
+
+
+def _up_to(most):
+    return lambda name, value: _number(name, value, most)
+
+
+def _bytes(name, value):
+    if isinstance(value, bytes):
+        return value
+    # Of a number Python makes as many zeros.
+    if _is_number(value):
+        raise TypeError("%s is bytes, each 0 to 255, and not the number %d" % (name, value))
+    try:
+        return bytes(value)
+    except ValueError:
+        raise ValueError("%s is bytes, each 0 to 255" % name) from None
+    except TypeError:
+        raise TypeError("%s is bytes, each 0 to 255, and not %r" % (name, value)) from None
+
+
+def _text(name, value):
+    return value.encode("latin-1") if isinstance(value, str) else _bytes(name, value)
+
+
+def _address(name, value):
+    if not isinstance(value, str):
+        return _number(name, value, 0xffff)
+    if not re.fullmatch(r"[0-9a-fA-F](\.[0-9a-fA-F]){3}", value):
+        raise ValueError("%s has four nibbles of 0 to f, as 1.2.0.0, and is not %r" % (name, value))
+    return int(value.replace(".", ""), 16)
+
+
+def _bits(name, value):
+    bits = [_number("a bit of " + name, bit, 1) for bit in value]
+    _number("the number of " + name, len(bits), MOST_BITS)
+    return bits
+
+
+# What a call takes, by the name of its parameter. ctypes would cut a number to the bits of its C type.
+_INSTANT = _up_to(2 ** 64 - 1)
+_TAKES = {
+    "frame": _bytes, "edid": _bytes,
+    "text": _text, "topology": _text, "script": _text, "edges": _text,
+    "address": _address, "segment": _up_to(0xff), "offset": _up_to(0xff), "count": _up_to(sys.maxsize),
+    "begin": _INSTANT, "at": _INSTANT, "t": _INSTANT, "bits": _bits,
+}
+
+
+def _taking(call):
+    """The call, whose arguments are taken as _TAKES has it."""
+    takes = {name: _TAKES.get(name, lambda _, value: value) for name in inspect.signature(call).parameters}
+    parameters = list(takes.items())
+
+    @functools.wraps(call)
+    def taking(*given, **named):
+        front = [take(name, value) for (name, take), value in zip(parameters, given)]
+        if named:
+            named = {name: takes[name](name, value) if name in takes else value for name, value in named.items()}
+        return call(*front, *given[len(front):], **named)
+
+    return taking
+
+
 def _filled(call, *arguments, room=512):
     # The answer says how much room is needed: a second call has that much.
     while True:
@@ -145,49 +229,41 @@ def _filled(call, *arguments, room=512):
         room = answer.length
 
 
-def _text(text):
-    return text.encode("latin-1") if isinstance(text, str) else bytes(text)
-
-
+@_taking
 def frame_text(frame):
     """The one text of a frame of 1 to 16 bytes, as '4>f active-source 1.0.0.0'."""
-    frame = bytes(frame)
     return _filled(_library.hdminet_frame_text, frame, len(frame), room=96).decode("ascii")
 
 
+@_taking
 def frame_bytes(text):
     """The bytes of the frame that has exactly this text."""
-    text = _text(text)
     return _filled(_library.hdminet_frame_bytes, text, len(text), room=16)
 
 
+@_taking
 def edid_fault(edid):
     """Why bytes are no EDID, as 'edid: base checksum'; None where they are one."""
-    edid = bytes(edid)
     code = _library.hdminet_edid_fault(edid, len(edid))
     return CODES[code] if code else None
 
 
+@_taking
 def edid_text(edid):
     """The text of an EDID, a line for each part of it."""
-    edid = bytes(edid)
     return _filled(_library.hdminet_edid_text, edid, len(edid), room=4096).decode("latin-1")
 
 
+@_taking
 def edid_port(edid, address, from_amplifier=False):
     """The EDID that a port passes on of one. The address is 0x1200 or '1.2.0.0'; an amplifier on the way has its own audio."""
-    edid = bytes(edid)
-    if isinstance(address, str):
-        nibbles = [int(nibble, 16) for nibble in address.split(".")]
-        if len(nibbles) != 4 or max(nibbles) > 15:
-            raise ValueError("an address has four nibbles, as 1.2.0.0")
-        address = nibbles[0] << 12 | nibbles[1] << 8 | nibbles[2] << 4 | nibbles[3]
     return _filled(_library.hdminet_edid_port, edid, len(edid), address, from_amplifier)
 
 
+@_taking
 def edid_read(edid, segment, offset, count):
     """What a reader reads over DDC: so many bytes from an offset of a segment on; None where that is not acknowledged."""
-    edid, buffer = bytes(edid), ctypes.create_string_buffer(count)
+    buffer = ctypes.create_string_buffer(count)
     answer = _library.hdminet_edid_read(edid, len(edid), segment, offset, buffer, count)
     if answer.code == ABSENT:
         return None
@@ -196,18 +272,19 @@ def edid_read(edid, segment, offset, count):
     return buffer.raw
 
 
+@_taking
 def edid_bytes(text):
     """The bytes of the EDID that has exactly this text, as `edid_text` gives it."""
-    text = _text(text)
     return _filled(_library.hdminet_edid_bytes, text, len(text))
 
 
 Findings = namedtuple("Findings", "text fails")
 
 
+@_taking
 def edid_check(edid):
     """The rules that the EDID of a display breaks: a line for each, and whether one of them is a failure."""
-    edid, fails = bytes(edid), ctypes.c_bool()
+    fails = ctypes.c_bool()
 
     def call(*arguments):
         return _library.hdminet_edid_check(*arguments, ctypes.byref(fails))
@@ -216,30 +293,31 @@ def edid_check(edid):
     return Findings(text, fails.value)
 
 
+@_taking
 def edid_meaning(edid):
     """The text of an EDID, and below each line, after two spaces, what it means."""
-    edid = bytes(edid)
     return _filled(_library.hdminet_edid_meaning, edid, len(edid), room=1 << 14).decode("latin-1")
 
 
+@_taking
 def emulate(topology, script):
     """The trace of the run of a script on a topology, both in the words of docs/formats.md."""
-    topology, script = _text(topology), _text(script)
     return _filled(_library.hdminet_emulate, topology, len(topology), script, len(script), room=1 << 16).decode("latin-1")
 
 
+@_taking
 def emulate_edges(topology, script):
     """The falls and rises of the line of that run, as `watch` reads them."""
-    topology, script = _text(topology), _text(script)
     return _filled(_library.hdminet_emulate_edges, topology, len(topology), script, len(script), room=1 << 18).decode("latin-1")
 
 
 Report = namedtuple("Report", "text count failed")
 
 
+@_taking
 def check(topology, script):
     """Whether the run of a script is as its expectations have it: the report, how many tests it has, and how many failed."""
-    topology, script, counts = _text(topology), _text(script), _Counts()
+    counts = _Counts()
 
     def call(*arguments):
         return _library.hdminet_check(*arguments, ctypes.byref(counts))
@@ -248,9 +326,9 @@ def check(topology, script):
     return Report(text, counts.count, counts.failed)
 
 
+@_taking
 def watch(edges):
     """What was read on a line of these falls and rises, a line each."""
-    edges = _text(edges)
     return _filled(_library.hdminet_watch, edges, len(edges), room=1 << 16).decode("latin-1")
 
 
@@ -258,7 +336,7 @@ class Reading(namedtuple("Reading", "begin at ending bits")):
     """A reading of the line: its fall, the instant of its ending, how it ended, and the bits that were sampled."""
 
     def _parts(self):
-        return _Reading(self.begin, self.at, ENDINGS.index(self.ending), len(self.bits), (ctypes.c_bool * 160)(*self.bits))
+        return _reading_parts(*self)
 
     def frame(self):
         """The bytes of the frame of a complete reading, and None of another one."""
@@ -274,6 +352,11 @@ class Reading(namedtuple("Reading", "begin at ending bits")):
         """Whether a complete reading was acknowledged or, of a frame to all, not refused."""
         frame = self.frame()
         return frame is not None and bool(self.bits[-1]) == (frame[0] % 16 == 15)
+
+
+@_taking
+def _reading_parts(begin, at, ending, bits):
+    return _Reading(begin, at, ENDINGS.index(ending), len(bits), (ctypes.c_bool * MOST_BITS)(*bits))
 
 
 def _reading(parts):
@@ -293,6 +376,7 @@ class Receiver:
         self.state = _library.hdminet_receiver_new()
         self.heard = _Heard()
 
+    @_taking
     def hear(self, t, is_low):
         """Instant t has come, an edge or a wake; the reading that it ends, or None. `heard` has what it told."""
         parts = _Reading()
@@ -310,18 +394,24 @@ class Receiver:
             raise Error(instant.code)
         return instant.at
 
+    @_taking
     def until(self, t):
         """The readings that have ended by t, t itself too, where no edge comes: a list of one at most."""
+        return self._before(t + 1)
+
+    @_taking
+    def edge(self, t, is_low):
+        """The line falls or rises at t. A list of the readings that have ended since the edge before, at this edge too."""
+        readings = self._before(t) + [self.hear(t, is_low)]
+        return [reading for reading in readings if reading is not None]
+
+    def _before(self, t):
         readings = []
-        while (wake := self.wakes_at()) is not None and wake <= t:
+        while (wake := self.wakes_at()) is not None and wake < t:
             readings.append(self.hear(wake, self.state.is_low))
         return [reading for reading in readings if reading is not None]
 
-    def edge(self, t, is_low):
-        """The line falls or rises at t. A list of the readings that have ended since the edge before, at this edge too."""
-        readings = self.until(t - 1) + [self.hear(t, is_low)]
-        return [reading for reading in readings if reading is not None]
-
+    @_taking
     def running(self, t):
         """The reading that runs, open at t, or None."""
         parts = _Reading()
@@ -336,8 +426,8 @@ class Receiver:
 class Sender:
     """A sender of one frame, which begins at an instant. It hears what a receiver told of the line: `receiver.heard`."""
 
+    @_taking
     def __init__(self, frame, begin):
-        frame = bytes(frame)
         self.state = _Sender()
         self._check(_library.hdminet_sender_begin(ctypes.byref(self.state), frame, len(frame), begin))
 
@@ -346,16 +436,19 @@ class Sender:
         if code:
             raise Error(code)
 
+    @_taking
     def hear(self, heard, t):
         """What a receiver told at t of the reading that this sender began."""
         self._check(_library.hdminet_sender_heard(ctypes.byref(self.state), ctypes.byref(heard), t))
 
+    @_taking
     def pulls(self, t):
         """Whether it pulls the line low in microsecond t."""
         pull = _library.hdminet_sender_pulls(ctypes.byref(self.state), t)
         self._check(pull.code)
         return pull.is_low
 
+    @_taking
     def next_change(self, t):
         """The first instant after t at which its pull changes, or None."""
         instant = _library.hdminet_sender_next_change(ctypes.byref(self.state), t)
