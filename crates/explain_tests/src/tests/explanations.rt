@@ -469,7 +469,7 @@ end 9
 => script line 3: label
   line 5 of the input: expect refused not-for-kin
                                       ^^^^^^^^^^^
-  `not-for-kin`: did you mean `not-for-kind`?
+  the lines above have the labels `film`
   a label is a word that no other line has, on a line above those that name it; `refused` names that of an event, or stands on the line below one
 --
 check --explain
