@@ -1385,7 +1385,7 @@ def pages_are_made(t, b):
     for name, text, words in [
             ("typo.net", f"{top}script\nat 5 pres tv play\nend 10\n", ["line 4 of the input: at 5 pres tv play", "did you mean `press`"]),
             ("typo.test", f"{top}script\nat 5 press tv play\nexpect nothing\nend 10\n", ["line 5 of the input: expect nothing"]),
-            ("returns.net", f"{top}script\nend 10\n".replace("\n", "\r\n"), ["lines end with LF; this one has a CR before it"]),
+            ("returns.net", f"{top}script\nend 10\n".replace("\n", "\r\n"), ["this line ends with a carriage return before its line feed"]),
             ("capital.net", f"{top}Script\nend 10\n", ["line 3: Script", "the line `script` is missing"])]:
         for tool in (["tools/page", written(name, text), "-o", missing], ["tools/look", written(name, text), "-o", missing]):
             done = subprocess.run([os.path.join(TOP, tool[0]), *tool[1:]], capture_output=True, check=False)
