@@ -1034,7 +1034,7 @@ def live_server_is_careful(t, b):
 
 
 def other_sizes_fit(t, b):
-    """A telephone: the panel below the chart, nothing wider than the window, the help on the first screen; and all rows on paper."""
+    """A telephone: the panel below the chart, nothing wider than the window, the help on the first screen; and all rows where it is printed."""
     page = page_of(os.path.join(EXAMPLES, "living-room-evening.net"))
     try:
         b.resize(390, 800)

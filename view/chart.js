@@ -16,7 +16,7 @@ const MARGIN = 10;
 const HEADS = 50;
 const BESIDE = 12; // rows that are drawn above and below those in sight
 const MOST_PRINTED = 5000; // rows
-const PRINTED = 8; // rows of one picture on paper
+const PRINTED = 8; // rows of one printed picture
 const widthOf = text => text.length * CHARACTER;
 
 /* Why a device stopped: it sent a 1 and the line said 0. In the initiator's address that is an arbitration. */
@@ -123,7 +123,7 @@ export class Chart {
     this.drawn = null;
     this.draw();
   }
-  /* All rows as pictures that no page of paper cuts. */
+  /* All rows as pictures that no printed page cuts. */
   print() {
     if (this.shown.length === 0 || this.shown.length > MOST_PRINTED) return;
     this.measure();
