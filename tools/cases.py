@@ -1,4 +1,4 @@
-"""The cases of tools/bytes: each a name, a command line and an input, alike for a seed and a tree.
+"""The cases of tools/bytes: each a name, a command line and an input, alike for a start and a tree.
 
 They are made of the examples by each set of flags that fits; each --help, and command lines that are refused; command lines and
 inputs in the texts of the crates of tests; stdin and args of crates; EDIDs and frames that go through tables (tools/edid_cases.py);
@@ -251,9 +251,9 @@ class Cases:
         self.all += self.named(kind, found)
 
 
-def all_cases(top, program, count, seed, processes):
+def all_cases(top, program, count, start, processes):
     """about so many cases, and beside them those that go through tables"""
-    r, cases = random.Random(seed), Cases()
+    r, cases = random.Random(start), Cases()
     cases.add('help', of_helps())
     cases.add('stdin', of_folders(top))
     cases.add('example', of_examples(top))
@@ -264,7 +264,7 @@ def all_cases(top, program, count, seed, processes):
     edids, lines = known_edids(top), list(captures(top, program))
     cases.add('edid', (flipped_edid(r, edids) for _ in range(left // 10)))
     cases.add('capture', (monitored(r, lines) for _ in range(left // 8)))
-    wanted = [(kind, seed + number) for kind, share in SHARES.items() for number in range(left // 2 * share // sum(SHARES.values()))]
+    wanted = [(kind, start + number) for kind, share in SHARES.items() for number in range(left // 2 * share // sum(SHARES.values()))]
     with multiprocessing.Pool(processes) as pool:
         cases.add('made', pool.starmap(generated, wanted, chunksize=16))
     whole = [case for case in cases.all if len(case[2]) < LONGEST_DAMAGED and not case[0].startswith(('help', 'table'))]
