@@ -22,6 +22,10 @@
 extern "C" {
 #endif
 
+/* The version of these calls: a thousand times the major version, and the minor one. The minor version rises where calls or numbers
+   are added, the major one where something that was there changes (docs/library.md). */
+#define HDMINET_VERSION 1000
+
 /* How a call went. */
 enum hdminet_code {
     HDMINET_DONE = 0,
@@ -115,6 +119,9 @@ typedef struct hdminet_fate {
     uint32_t code; /* enum hdminet_code: 0 where it is known */
     uint8_t fate;  /* 1 delivered, 2 not acknowledged or refused, 3 lost to another initiator, 4 broken; 0 where it is not known */
 } hdminet_fate;
+
+/* HDMINET_VERSION of the library at hand: at least that of the header, with the same thousands. */
+uint32_t hdminet_version(void);
 
 /* The one text of a frame of 1 to 16 bytes: at most 96 bytes, with no 0 after them. */
 hdminet_answer hdminet_frame_text(const uint8_t *bytes, size_t bytes_length, uint8_t *room, size_t room_length);

@@ -35,6 +35,9 @@ class WireTest(collections.namedtuple("WireTest", "name title section level requ
     def features(self):
         return ()
 
+    def lacked(self):
+        return ()
+
 
 class Round:
     """A line of the trace that is a round."""
@@ -242,6 +245,7 @@ def refused_windows(bench):
     """A start bit that is none and a bit that comes too late: nothing is acknowledged after them, and the next frame is answered."""
     wrong, frame = [], to_device(bench, GIVE_OSD_NAME)
     late = BITS_OF_A_BLOCK + 3
+    rows: tuple[tuple[str, dict, int], ...]
     rows = (("a start bit that is low for 2,800", {"start_low": 2_800, "start": 3_600}, 0), ("a start bit that is low for 4,600", {"start_low": 4_600, "start": 5_400}, 0),
             ("a bit of 3,400", {"widths": {late: 3_400}}, late))
     for name, shape, slot in rows:

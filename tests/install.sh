@@ -44,15 +44,25 @@ bin/join-room 755
 share/bash-completion/completions/hdminet 644
 share/fish/vendor_completions.d/hdminet.fish 644
 share/man/man1/hdminet.1 644
-share/zsh/site-functions/_hdminet 644'
+share/zsh/site-functions/_hdminet 644
+share/hdminet/hdminet 755
+bin/hdminet-suite 755
+bin/hdminet-look 755
+bin/hdminet-junit 755
+bin/hdminet-cec-device 755
+bin/hdminet-cec-adapter 755'
+# What works together outside of a checkout, with the modes that it has there, and the Python module.
+FILES+=$'\n'$(cd "$top" && find tools/{suite,look,page,page-live,check-room,join-room,junit.py,cec-device,cec-adapter} tools/cec suite view examples tests/real-programs \
+  release/view.html -type f ! -name '*.pyc' -printf 'share/hdminet/%p %m\n')
+FILES+=$'\n'$(cd "$top/python" && find hdminet -type f ! -name '*.pyc' -printf 'python/%p 644\n')
+FILES=$(LC_ALL=C sort <<< "$FILES")
 LIBRARY='include/hdminet.h 644
 include/hdminet_wire.h 644
 lib/libhdminet.a 644
 lib/libhdminet.so 644
 lib/libhdminet_wire.a 644
 lib/pkgconfig/hdminet.pc 644
-lib/pkgconfig/hdminet_wire.pc 644
-python/hdminet.py 644'
+lib/pkgconfig/hdminet_wire.pc 644'
 PROGRAM_FILES=$FILES
 both() { printf '%s\n' "$PROGRAM_FILES" "$LIBRARY" | LC_ALL=C sort; }
 [ ! -d "$top/release/lib" ] || FILES=$(both)
@@ -134,6 +144,21 @@ label slip at 1500000 press tv eject\nexpect refused slip not-for-kind|label sli
   start env PATH="$dir/bin:$PATH" prove -e 'check-room ten.room' "$room"/elsewhere/fails/*.test
   check "each with a slip fails" [ "$(grep -c 'Tests: 1 Failed: 1)' "$room/out")" = 10 ]
 fi
+# The jobs of README.md from what is installed.
+at=$dir/share/hdminet
+start "$dir/bin/hdminet-suite" --dut "'$at/examples/suite/reference.py'" --kind player osd-name
+check "the suite works from there" ended 0
+check "and says so" wrote "ok 1 - osd-name: Give OSD Name is answered with the name (CEC 13.11)"
+start env HDMINET_OPEN=true TMPDIR="$room/home" "$dir/bin/hdminet-look" "$at/examples/two-decks.test"
+check "so does the page" ended 0
+start "$dir/bin/hdminet-junit" -o "$room/home/film.xml" "$at/examples/film.test"
+check "and a report of JUnit's form" ended 0
+start "$dir/bin/hdminet-cec-device" --help
+check "and the tools for CEC programs" ended 0
+start "$dir/bin/hdminet-cec-adapter" --help
+check "of both kinds" ended 0
+start env PYTHONDONTWRITEBYTECODE=1 PYTHONPATH="$dir/python" python3 -c 'import hdminet; print(hdminet.check(open(hdminet.reports.homes.home() + "/examples/film.test").read()).holds)'
+check "and the Python module" wrote True
 if command -v man > /dev/null; then
   start env MANWIDTH=80 LC_ALL=C man -l "$dir/share/man/man1/hdminet.1"
   check "man shows the manual" ended 0
@@ -175,7 +200,9 @@ hdminet edid --port 2 --below | amp
 hdminet mon --signal |
 hdminet asm --from|
 hdminet --explain run --str| --strict
-hdminet run < fi| film.test'
+hdminet run < fi| film.test
+hdminet run fi| film.test
+hdminet live fi|'
 # The flags of each subcommand are those of its help.
 for command in run check step live asm dis lay mon edid; do
   ROWS+=$'\n'"hdminet $command --| $("$dir/bin/hdminet" "$command" --help | sed -n '/^Options:$/,/^$/p' | grep -oE '^ +(-h, )?--[a-z-]+' | grep -oE -- '--[a-z-]+' | tr '\n' ' ')"
@@ -264,7 +291,7 @@ check "and nothing is written" [ -z "$(ls "$room/made")" ]
 
 # A checkout of other sources than those of its released program.
 mkdir "$room/checkout"
-cp -R "$top/tools" "$top/release" "$top/hdminet.1" "$room/checkout"
+cp -R "$top"/{tools,release,suite,view,examples,python,include,hdminet.1} "$room/checkout" && mkdir "$room/checkout/tests" && cp -R "$top/tests/real-programs" "$room/checkout/tests"
 echo 'hdminet:' > "$room/checkout/crates.txt"
 echo old > "$dir/bin/hdminet"
 start "$room/checkout/tools/install" "$dir/"
@@ -274,7 +301,7 @@ check "and says that the sources are other ones" grep -qxF "install: the release
 check "which refuses nothing" ended 0
 
 # One with a library that is a stand-in for one.
-rm -rf "$room/checkout/release"/{lib,include,python,library*}
+rm -rf "$room/checkout/release"/{lib,include,library*}
 with_library() {
   local file
   for file in "${LIBRARY_FILES[@]}"; do
@@ -292,7 +319,9 @@ check "a released library is installed" [ "$(files_of "$room/with")" = "$(both)"
 check "its files are the released ones" cmp -s "$room/checkout/release/lib/libhdminet.a" "$room/with/lib/libhdminet.a"
 check "and say so where the sources are other ones" grep -qxF "install: the released library was built of other sources than those beside it" "$room/err"
 check "pkg-config is told the folder" grep -qxF "prefix=$room/with" "$room/with/lib/pkgconfig/hdminet_wire.pc"
-check "and the version" grep -qxF "Version: $("$top/release/hdminet" --version | cut -d' ' -f2)" "$room/with/lib/pkgconfig/hdminet.pc"
+check "and the version of its calls" grep -qxF "Version: 0.0" "$room/with/lib/pkgconfig/hdminet.pc"
+check "a link has the major one" [ "$(readlink "$room/with/lib/libhdminet.so.0")" = libhdminet.so ]
+check "an older library than the headers here is named" grep -qE '^install: the released library has version 0.0, and its headers here [1-9]' "$room/err"
 start "$room/checkout/tools/install" relative
 check "and of a folder from here its whole name" grep -qxF "prefix=$room/elsewhere/relative" "$room/elsewhere/relative/lib/pkgconfig/hdminet.pc"
 start "$room/checkout/tools/install" --remove "$room/with"
@@ -327,9 +356,10 @@ for words in "" "-x" "a b"; do
 done
 
 : > "$dir/bin/other"
+links=$(find "$dir" -type l | wc -l)
 start "$top/tools/install" --remove "$dir"
 check "--remove takes the files away" [ "$(files_of "$dir" | cut -d' ' -f1)" = bin/other ]
-check "and names each" [ "$(grep -c '^install: removed ' "$room/out")" = "$(wc -l <<< "$FILES")" ]
+check "and names each, and its links" [ "$(grep -c '^install: removed ' "$room/out")" = "$(($(wc -l <<< "$FILES") + ${links}))" ]
 start "$top/tools/install" --remove "$dir"
 check "and says where there is nothing" wrote "install: nothing of hdminet is in $dir"
 

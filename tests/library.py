@@ -67,7 +67,7 @@ def edids():
     refused(30, 0, hdminet.edid_port, edid[:-1], 0x1200)
     for turned, code in ((3, 32), (40, 33), (200, 36)):
         other = edid[:turned] + bytes([edid[turned] ^ 16]) + edid[turned + 1:]
-        assert hdminet.edid_fault(other) == hdminet.CODES[code]
+        assert hdminet.edid_fault(other) == hdminet.calls.CODES[code]
         refused(code, 0, hdminet.edid_text, other)
         refused(code, 0, hdminet.edid_port, other, "1.0.0.0")
     passed = hdminet.edid_port(edid, "1.2.0.0")
@@ -128,8 +128,8 @@ def runs():
     refused(21, 1, hdminet.emulate, "device tv tv 1\n", "at 1 send tv 4>0 frob\nend 5\n")
     refused(87, 2, hdminet.emulate, "device tv tv 1\n", "at 1 press tv play\n")
     refused(100, 1, hdminet.watch, "frob\n")
-    refused(60, 1, hdminet.check, "frob\n", "end 1\n")
-    refused(90, 1, hdminet.check, "device tv tv 1\n", "expect frob\nend 5\n")
+    refused(60, 1, hdminet.check_text, "frob\n", "end 1\n")
+    refused(90, 1, hdminet.check_text, "device tv tv 1\n", "expect frob\nend 5\n")
     # The key of the player is pressed at 1000000; the rounds after it are those of examples/first-path.trace.
     topology = "device tv tv 4\ndevice p1 player 0\nplug p1 tv 1\n"
     script = """label film at 1000000 press p1 play
@@ -137,7 +137,7 @@ label on expect within 60000 of film 4>0 image-view-on ack
 expect none within 200000 of film 4>f active-source
 end 1500000
 """
-    assert hdminet.check(topology, script) == ("""TAP version 13
+    assert hdminet.check_text(topology, script) == ("""TAP version 13
 ok 1 - line 2: label on expect within 60000 of film 4>0 image-view-on ack
 not ok 2 - line 3: expect none within 200000 of film 4>f active-source
 # seen 1 from 1000000 to 1200000
@@ -157,14 +157,14 @@ not ok 2 - line 3: expect none within 200000 of film 4>f active-source
             assert trace.encode("latin-1") == subprocess.run([program, "run"], input=text, capture_output=True, check=True).stdout, name
             assert edges.encode() == subprocess.run([program, "run", "--edges"], input=text, capture_output=True, check=True).stdout, name
             assert hdminet.watch(edges).encode() == subprocess.run([program, "mon"], input=edges.encode(), capture_output=True, check=True).stdout, name
-            ran, report = subprocess.run([program, "check"], input=text, capture_output=True), hdminet.check(topology, script)
+            ran, report = subprocess.run([program, "check"], input=text, capture_output=True), hdminet.check_text(topology, script)
             assert (ran.stdout, ran.returncode) == (report.text.encode("latin-1"), min(report.failed, 1)), name
         if receiver:
             assert subprocess.run([receiver], input=edges.encode(), capture_output=True, check=True).stdout == hdminet.watch(edges).encode(), name
         print("%s: trace and edges in %.1f milliseconds each" % (os.path.basename(name), took * 1000 / 2))
     for name in sorted(glob.glob(os.path.join(top, "examples", "*.test"))):
         text = read(os.path.basename(name))
-        report = hdminet.check(*text.split(b"script\n", 1))
+        report = hdminet.check_text(*text.split(b"script\n", 1))
         kept = name[:-4] + ("failures" if report.failed else "report")
         assert report.text.encode("latin-1") == read(os.path.basename(kept)), name
         assert report.count == len(re.findall("^(?:not )?ok ", report.text, re.M)) and report.failed == len(re.findall("^not ok ", report.text, re.M))
@@ -208,8 +208,8 @@ OF_BYTES = [
     ("emulate", hdminet.emulate, {"topology": "", "script": ""}, "script"),
     ("emulate_edges", hdminet.emulate_edges, {"topology": "", "script": ""}, "topology"),
     ("emulate_edges", hdminet.emulate_edges, {"topology": "", "script": ""}, "script"),
-    ("check", hdminet.check, {"topology": "", "script": ""}, "topology"),
-    ("check", hdminet.check, {"topology": "", "script": ""}, "script"),
+    ("check_text", hdminet.check_text, {"topology": "", "script": ""}, "topology"),
+    ("check_text", hdminet.check_text, {"topology": "", "script": ""}, "script"),
     ("watch", hdminet.watch, {"edges": ""}, "edges"),
 ]
 # What is neither: flags, and what a receiver gave. The parts of a reading are asked of the calls that take it.
@@ -245,7 +245,7 @@ def ranges():
     for address in ("10.0.0.0", "-1.0.0.0", "1.2.0", "1.2.0.0.0", "1.2.0.g", ""):
         assert outcome(hdminet.edid_port, {"edid": EDID}, "address", address) == "ValueError", address
     # No number and no bytes of a call are left out above.
-    calls = {name: getattr(hdminet, name) for name in hdminet.__all__ if name not in ("Error", "Findings", "Report", "Reading", "Sender", "Receiver")}
+    calls = {name: getattr(hdminet, name) for name in hdminet.__all__ if name[0].islower() and name not in ("check", "library_version")}
     calls.update({"%s.%s" % (kind.__name__, name): method for kind in (hdminet.Receiver, hdminet.Sender, hdminet.Reading)
                   for name, method in vars(kind).items() if inspect.isfunction(method) and not name.startswith("_")})
     calls["Sender"] = hdminet.Sender
@@ -258,7 +258,7 @@ frames()
 edids()
 lines()
 ranges()
-if hasattr(hdminet._library, "hdminet_emulate"):
+if hasattr(hdminet.calls._library, "hdminet_emulate"):
     judged_edids()
     runs()
 print("library.py: ok")

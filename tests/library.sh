@@ -36,6 +36,16 @@ for file in "$top"/examples/c/*.c "$top"/tests/library*.c "$top"/tools/library*.
   [[ $file == *gpio.c ]] && ! has_pins || line "$(basename "$file") compiles" compiles "$file"
 done
 
+# What the room says of the frame to examples/c/follower.c, whose interrupts come so late.
+follows() {
+  $cc -std=c11 -O2 -Wall -Wextra -Werror -o "$room/follower" "$top/examples/c/follower.c" && HDMINET="$top/release/hdminet" $run "$room/follower" "$1" \
+    < "$top/examples/c/follower.net" > "$room/written" && grep '^1000000 ' "$room/written" | grep -F -- "$2"
+}
+if [ -z "$run" ]; then
+  line "follower.c, whose interrupts are 300 late, acknowledges" follows 300 'complete 4>8 give-osd-name ack by p1 out -'
+  line "follower.c, whose interrupts are 700 late, breaks the frame" follows 700 'short 010010000 by p1 out -'
+fi
+
 # A checkout with the two crates of exports, and one below them.
 make_checkout() {
   local here=$room/checkout crate
@@ -180,7 +190,7 @@ finds_others() {
   finds 1 "$SAME" "its include/hdminet.h is not the one that stands here" || return 1
   echo changed >> "$here/crates/low/src/lib.rt"
   finds 0 "it was built of other sources" "its library was built of other sources" || return 1
-  echo >> "$here/release/python/hdminet.py"
+  echo >> "$here/release/include/hdminet_wire.h"
   finds 1 "it was built of other sources" "its library does not have the sums that stand beside it" || return 1
   rm -r "$here/release/lib"
   finds 0 "it was built of other sources" "there is no library" || return 1
@@ -194,7 +204,7 @@ releases_nothing() {
   [ "$(tail -n 1 "$room/said.err")" = "release: no library was made: nothing is released" ] && diff -r "$room/before" "$room/checkout/release" && rm -r "$room/before"
 }
 SAME="its program is the one that was built"
-RELEASED="./built-of ./hdminet ./hdminet.sha256 ./include/hdminet.h ./include/hdminet_wire.h ./lib/libhdminet.a ./lib/libhdminet.so ./lib/libhdminet_wire.a ./library-built-of ./library.sha256 ./python/hdminet.py "
+RELEASED="./built-of ./hdminet ./hdminet.sha256 ./include/hdminet.h ./include/hdminet_wire.h ./lib/libhdminet.a ./lib/libhdminet.so ./lib/libhdminet_wire.a ./library-built-of ./library.sha256 "
 for KIT in 13b 13f; do
   line "tools/release with the words of kit $KIT" releases
   line "tools/release of a library that is given, with the words of kit $KIT" releases_a_folder
@@ -311,7 +321,10 @@ misreads() {
     [ "$(grep -c '^# [0-9 ]* silent 0 by - out -$' "$room/written")" -gt 100 ]
 }
 
-if [ $# -ge 1 ]; then
+. "$top/tools/home.bash"
+if [ $# -ge 1 ] && [ "$(library_version "$1")" != "$(library_version "$top")" ]; then
+  echo "library: the library in $1 has version $(library_version "$1"), and its headers here $(library_version "$top"): it is left out"
+elif [ $# -ge 1 ]; then
   at=$(cd "$1" && pwd) || exit 2
   program=${2:-}
   line "what libhdminet_wire.a gives and asks for" wire_names

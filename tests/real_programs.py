@@ -123,6 +123,100 @@ def test_rooms(tests, program):
         result.forget()
 
 
+# The Python of these tools, each file with the folders of its modules.
+TYPED = (
+    ("tools/cec/linux_dut.py", ["tools/cec"]),
+    ("tools/cec-device", ["tools/cec"]),
+    ("tools/cec-adapter", ["tools/cec"]),
+    ("tools/cec-room", ["tools/cec"]),
+    ("tools/suite", ["suite", "tools"]),
+)
+
+
+def test_types(tests):
+    """Debian's mypy finds no type at fault, where it is installed."""
+    if not shutil.which("mypy"):
+        print("real programs: types are not checked: there is no mypy")
+        return
+    for name, folders in TYPED:
+        modules = os.pathsep.join(os.path.join(TOP, folder) for folder in folders)
+        words = ["mypy", "--check-untyped-defs", "--no-strict-optional", "--cache-dir", os.devnull, os.path.join(TOP, name)]
+        ran = subprocess.run(words, env=dict(os.environ, MYPYPATH=modules), capture_output=True, text=True)
+        tests.expect("the types of %s" % name, ran.returncode == 0, ran.stdout + ran.stderr)
+
+
+# Whether an adapter can be written to by `poll` and by `select`, and by `select` of a second descriptor, which outlives the first one.
+DESCRIPTORS = """import fcntl, os, select
+device = os.open("/dev/cec0", os.O_RDWR | os.O_NONBLOCK)
+other = fcntl.fcntl(device, fcntl.F_DUPFD_CLOEXEC, 0)
+asked = select.poll()
+asked.register(device, select.POLLOUT)
+print(asked.poll(100) != [], select.select([], [device], [], 0.1)[1] != [], select.select([], [other], [], 0.1)[1] != [])
+os.close(device)
+print(len(fcntl.ioctl(other, 0xC04C6100, bytes(76))))
+"""
+
+
+# Sleeps before and after it has the device, waits by epoll for what does not come and for the event that waits, and says how late it is.
+WAITS = """import os, select, time
+time.sleep(0.01)
+device = os.open("/dev/cec0", os.O_RDWR | os.O_NONBLOCK)
+begin = time.monotonic()
+time.sleep(30)
+epoll = select.epoll()
+epoll.register(device, select.EPOLLIN)
+print(epoll.poll(20), round(time.monotonic() - begin, 3))
+epoll.modify(device, select.EPOLLPRI)
+print(epoll.poll(20) == [(device, select.EPOLLPRI)], round(time.monotonic() - begin, 3))
+"""
+
+
+def test_waits(tests, program):
+    """A program that sleeps and waits does so in the room's time: 30 seconds, and 20 more."""
+    begin = time.monotonic()
+    ran = Ran(program, "play", ["dut"], ["python3", "-c", WAITS])
+    tests.expect("a program that waits in the room's time", ran.out == "[] 50.0\nTrue 50.0\n" and time.monotonic() - begin < 45, ran.out + ran.err)
+    ran.forget()
+
+
+def test_descriptors(tests, program):
+    """Two descriptors are one handle, which can be written to once the adapter has an address; a CDC message says where it comes from."""
+    for clock in ("room", "wall"):
+        with tempfile.TemporaryDirectory() as folder:
+            path = os.path.join(folder, "descriptors.py")
+            with open(path, "w", encoding="utf-8") as file:
+                file.write(DESCRIPTORS)
+            command = "python3 {0}; cec-ctl --playback >/dev/null; python3 {0}; cec-ctl --cdc-hec-discover >/dev/null".format(path)
+            ran = Ran(program, "play", ["dut"], ["bash", "-c", command], "--clock", clock)
+        tests.expect("descriptors by the clock of the %s" % clock, ran.out == "False False False\n76\nTrue True True\n76\n", ran.out + ran.err)
+        tests.expect("a CDC message by the clock of the %s" % clock, " 8>f op-f8 :300006 ok by dut out -\n" in ran.text("session.trace"), ran.text("session.trace"))
+        ran.forget()
+
+
+def test_workflow(tests, program):
+    """The lines of examples/cec-programs.yml, as a server of tests runs them, but for its packages and its clone; from a folder that has the tools alone."""
+    with open(os.path.join(TOP, "examples/cec-programs.yml"), encoding="utf-8") as file:
+        lines = re.findall(r"(?m)^      - run: (hdminet/.*)$", file.read())
+    with tempfile.TemporaryDirectory() as folder:
+        installed = os.path.join(folder, "hdminet")
+        os.makedirs(os.path.join(installed, "tools"))
+        for name in ("tools/cec-device", "tools/cec-room", "tools/cec-adapter", "tools/page"):
+            shutil.copy(os.path.join(TOP, name), os.path.join(installed, name))
+        for name in ("tools/cec", "view"):
+            shutil.copytree(os.path.join(TOP, name), os.path.join(installed, name))
+        shutil.copy(os.path.join(ROOMS, "play.net"), folder)
+        shutil.copy(os.path.join(ROOMS, "key.expect"), os.path.join(folder, "film.expect"))
+        with open(os.path.join(folder, "film.sh"), "w", encoding="utf-8") as file:
+            file.write("cec-ctl --playback > /dev/null\nhdminet/tools/cec-room label film press p1 play\nhdminet/tools/cec-room wait 1000000\n")
+        environment = dict(os.environ, HDMINET=program)
+        for line in lines:
+            ran = subprocess.run(line, shell=True, cwd=folder, env=environment, capture_output=True, text=True)
+            tests.expect("a line of the workflow: %s" % line, ran.returncode == 0, ran.stdout + ran.stderr)
+        kept = sorted(os.listdir(os.path.join(folder, "kept"))) if lines else []
+        wanted = ["session.html", "session.net", "session.report", "session.talk", "session.test", "session.trace"]
+        tests.expect("what the workflow keeps", len(lines) == 2 and kept == wanted, str(kept))
+
+
 def test_adapter_itself(tests, program):
     ran = Ran(program, "play", ["dut"], ["bash", "-c", "cec-ctl --playback >/dev/null; exec cec-compliance -A -s"])
     tests.expect("cec-compliance of the adapter itself", ran.total() == (ADAPTER_TESTS, ADAPTER_TESTS), ran.out[-2000:] + ran.err)
@@ -236,21 +330,74 @@ def try_libcec(program):
         return missing
 
 
+def suite_of_follower(program, kind, without):
+    """The tests of suite/ that cec-follower fails as a device of a kind, and what tools/suite writes."""
+    words = [os.path.join(TOP, "tools/suite"), "--program", program, "--linux", "cec-follower -d0", "--kind", kind]
+    for feature in without:
+        words += ["--without", feature]
+    ran = subprocess.run(words, capture_output=True, text=True)
+    return re.findall(r"(?m)^not ok \d+ - ([a-z-]+): ", ran.stdout), ran.stdout + ran.stderr
+
+
+def followers():
+    """What tests/real-programs/suite.txt says: of each kind the features that it is tested without, and the tests that fail."""
+    with open(os.path.join(ROOMS, "suite.txt"), encoding="utf-8") as file:
+        rows = [re.fullmatch(r"([a-z]+)(?:, without ([a-z ]+))?: ?([a-z -]*)\n", line) for line in file if not line.startswith("#")]
+    return [(row.group(1), (row.group(2) or "").split(), row.group(3).split()) for row in rows]
+
+
+def test_suite(tests, started):
+    """cec-follower as a device under test of the suite fails what it does otherwise, and nothing else; the document has a line for each."""
+    with open(os.path.join(TOP, "docs/real-programs.md"), encoding="utf-8") as file:
+        document = file.read()
+    for (kind, _, want), run in started:
+        failed, written = run.result()
+        tests.expect("the suite over cec-follower as %s: fails %s" % (kind, " ".join(failed)), failed == want, written)
+        missing = [name for name in want if "`%s`" % name not in document]
+        tests.expect("a line of docs/real-programs.md for %s" % " ".join(want), not missing, " ".join(missing))
+
+
+def test_suite_of_programs(tests, program):
+    """Two runs of the suite over a program say the same; a program that is none is named, and one device alone is tested."""
+    words = [os.path.join(TOP, "tools/suite"), "--program", program, "--kind", "amp"]
+    with tempfile.TemporaryDirectory() as folder:
+        kept = [os.path.join(folder, name) for name in ("one", "two")]
+        for each in kept:
+            subprocess.run([*words, "--linux", "cec-follower -d0", "--keep", each, "osd-name", "standby-one", "audio-on"], capture_output=True)
+        ran = subprocess.run(["diff", "-r", *kept], capture_output=True, text=True)
+        tests.expect("two runs of the suite over a program", ran.returncode == 0 and len(os.listdir(kept[0])) == 9, ran.stdout + ran.stderr)
+    ran = subprocess.run([*words, "--linux", "no-such-command", "osd-name"], capture_output=True, text=True)
+    tests.expect("the suite over no such command", ran.returncode == 1 and "linux_dut: no-such-command: " in ran.stderr and "its output has ended" in ran.stdout, ran.stderr)
+    ran = subprocess.run([*words, "--linux", "true", "--dut", "true", "osd-name"], capture_output=True, text=True)
+    tests.expect("the suite over two devices", ran.returncode == 2 and "one of --dut and --linux" in ran.stderr, ran.stderr)
+
+
 def main():
     program = os.path.realpath(sys.argv[1] if len(sys.argv) > 1 else os.path.join(TOP, "release/hdminet"))
     tests = Tests()
     if not shutil.which("cec-compliance") or not shutil.which("cc"):
         print("real programs: cec-compliance of v4l-utils is not installed, so nothing is run")
         return 0
+    # The suite and libcec wait more than they work: they run beside the others.
+    pool = concurrent.futures.ThreadPoolExecutor(6)
+    beside = [pool.submit(test_types, tests)]
+    if shutil.which("cec-client"):
+        beside.append(pool.submit(test_libcec, tests, program))
+    else:
+        print("real programs: cec-client of cec-utils is not installed, so libcec is not run")
+    started = [(row, pool.submit(suite_of_follower, program, row[0], row[1])) for row in followers()] if shutil.which("cec-follower") else []
     test_bad_input(tests, program)
     test_events(tests, program)
+    test_waits(tests, program)
+    test_descriptors(tests, program)
+    test_workflow(tests, program)
     test_adapter_itself(tests, program)
     test_two_seats(tests, program)
     test_rooms(tests, program)
-    if shutil.which("cec-client"):
-        test_libcec(tests, program)
-    else:
-        print("real programs: cec-client of cec-utils is not installed, so libcec is not run")
+    test_suite(tests, started)
+    test_suite_of_programs(tests, program)
+    for each in beside:
+        each.result()
     print("real programs: %d hold, %d fail" % (tests.held, len(tests.failed)))
     return 1 if tests.failed else 0
 

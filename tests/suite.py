@@ -17,7 +17,8 @@ sys.path.insert(0, os.path.join(TOP, "examples/suite"))
 
 from bitbanged import FAULTS, BitBanged, Timing  # noqa: E402
 from faulty import SLIPS  # noqa: E402
-import faulty_features  # noqa: E402, F401
+import faulty_features  # noqa: E402
+import faulty_messages  # noqa: E402, F401
 import faulty_televisions  # noqa: E402, F401
 from dut import Dut  # noqa: E402
 from emulated import Emulated  # noqa: E402
@@ -32,10 +33,10 @@ PROGRAM = os.path.realpath(sys.argv[1]) if len(sys.argv) > 1 else runner.found_p
 REFERENCE = os.path.join(TOP, "examples/suite/reference.py")
 # What the kinds of the emulator fail, and where they have a remark. A box of a recorder and a player is tested as a player.
 KNOWN = {
-    ("player", "player"): ([], ["active-woken"]),
-    ("recorder", "recorder"): ([], ["active-woken"]),
-    ("combo", "player"): ([], ["active-woken"]),
-    ("amp", "amp"): ([], ["audio-standby"]),
+    ("player", "player"): ([], ["active-woken", "deck-wakes"]),
+    ("recorder", "recorder"): ([], ["active-woken", "deck-wakes"]),
+    ("combo", "player"): ([], ["active-woken", "deck-wakes"]),
+    ("amp", "amp"): ([], ["audio-standby", "remote-functions"]),
     ("switch", "switch"): ([], []),
     ("tv", "tv"): ([], []),
 }
@@ -63,7 +64,7 @@ def failures(kind, device, port=2):
     suite.frames = FRAMES
     failed, remarked = [], []
     for test in TESTS:
-        if runner.skipped(test, kind, []) is None:
+        if runner.skipped(test, kind, [], getattr(device, "has", ())) is None:
             result = suite.test(test, Here(device))
             if not result.holds:
                 failed.append(test.name)
@@ -77,9 +78,14 @@ def of_slip(name):
     return failures(kind, device())
 
 
-def of_reference(kind_and_port):
-    kind, port = kind_and_port
-    return failures(kind, Reference(), port)
+class Full(Reference):
+    """Has all that a device may have beside."""
+    has = runner.OPTIONAL
+
+
+def of_reference(case):
+    kind, port, device = case
+    return failures(kind, device(), port)
 
 
 def expected():
@@ -99,11 +105,11 @@ def of_emulated(kinds):
 
 def keeps_the_standard(pool):
     """The device of the example passes as each kind, in each input of the television."""
-    cases = [(kind, 2) for kind in sorted(runner.KINDS)] + [("player", 1), ("amp", 4)]
+    cases = [(kind, 2, Reference) for kind in sorted(runner.KINDS)] + [("player", 1, Reference), ("amp", 4, Reference), ("recorder", 2, Full), ("tuner", 3, Full)]
     right = True
     for case, got in zip(cases, pool.map(of_reference, cases)):
         if got != ([], []):
-            print("suite: the reference as %s at %d: %s" % (*case, got))
+            print("suite: the reference as %s at %d: %s" % (*case[:2], got))
             right = False
     return right
 
@@ -191,18 +197,20 @@ class Always:
 def of_the_wire(latency_and_fault):
     """The tests of the wire that a device by pin fails, with what they say."""
     latency, fault = latency_and_fault
+    kind = ByLevels if fault == "by levels" else BitBanged
+    fault = None if fault == "by levels" else fault
     suite = runner.Suite(PROGRAM, "player", 2, 60)
     suite.frames = FRAMES
-    devices = Always(BitBanged(latency, FAULTS[fault][0] if fault else Timing()))
+    devices = Always(kind(latency, FAULTS[fault][0] if fault else Timing()))
     return {test.name: result.below for test in WIRE_TESTS if not (result := suite.wire_test(test, devices)).holds}
 
 
 def faults_of_the_wire_are_seen(pool):
     """Each fault of the wire fails the test that is named after it, and no other but those that stand beside it; a right device fails none."""
-    cases = [(20, fault) for fault in FAULTS] + [(latency, None) for latency in LATENCIES]
+    cases = [(20, fault) for fault in FAULTS] + [(latency, None) for latency in LATENCIES] + [(20, "by levels"), (150, "by levels")]
     right = True
     for (latency, fault), got in zip(cases, pool.map(of_the_wire, cases)):
-        want = set(FAULTS[fault][1].split()) if fault else set()
+        want = set(FAULTS[fault][1].split()) if fault in FAULTS else set()
         if set(got) != want:
             print("suite: %s at %d: fails %s" % (fault or "a right device", latency, got))
             right = False
@@ -226,6 +234,35 @@ def written(directory, name, text):
     with open(path, "w") as file:
         file.write(text)
     return path
+
+
+def settling_devices(pool):
+    """A device that is in transition for less than five seconds passes without a remark. It is asked again half a second after each answer that says
+    so, until a minute after it was asked first; later lines of the test come so much later, and the label stands at the last question."""
+    cases = [(kind, faulty_features.InTransition()) for kind in ("player", "amp", "tv")]
+    right = True
+    for kind, device in cases:
+        got = failures(kind, device)
+        if got != ([], []):
+            print("suite: a %s in transition for 4.3 seconds: %s" % (kind, got))
+            right = False
+    text = SEAT + "at 3000000 send tv 0>f standby\nlabel ask at 7000000 settle tv 0>{la}\nat 8000000 send tv 0>{la} give-osd-name\nend 9000000\n"
+    # An answer is over 147,000 after its question comes: a frame of two blocks, 20,000 of thinking and a frame of three. So it is asked every 647,000,
+    # 93 times in a minute.
+    for device, times in ((faulty_features.InTransition(), 2), (faulty_features.SettlesSlowly(), 5), (faulty_features.NeverSettles(), 93)):
+        run, script = run_of(device, text)
+        lines = [line.split(" ") for line in script.split("\n")]
+        asked = [int(words[words.index("at") + 1]) for words in lines if words[-1] == "give-device-power-status"]
+        named = [int(words[words.index("at") + 1]) for words in lines if words[-1] == "give-osd-name"]
+        labels = [words for words in lines if words[:2] == ["label", "ask"]]
+        steps = {after - before for before, after in zip(asked, asked[1:])}
+        answers = [line.split(" ")[4:-5] for line in run.room.trace if "4>0 report-power-status" in line]
+        right_times = asked[0] == 7_000_000 and asked[-1] <= 67_000_000 and named == [asked[-1] + 1_000_000] and run.end == asked[-1] + 2_000_000
+        if run.fault or not right_times or len(labels) != 1 or str(asked[-1]) not in labels[0] or any(not 640_000 < step < 660_000 for step in steps) \
+                or len(asked) != times or len(answers) != times:
+            print("suite: in transition: %s asked %d at %s, then %s, labels %s, steps %s, end %d" % (run.fault, len(asked), asked[-1], named, labels, steps, run.end))
+            right = False
+    return right
 
 
 def unplugged_devices(pool):
@@ -256,6 +293,37 @@ class Overlaps(Pin):
     def wake(self):
         for after, width in ((100, 600), (300, 600), (400, 50), (1000, 100)):
             self.pull(width, after)
+
+
+class Levels(Pin):
+    """Sets its pin low twice, and high twice."""
+
+    def wake(self):
+        for after, level in ((100, 0), (300, 0), (900, 1), (950, 1), (1000, 0), (1100, 1)):
+            self.pin(level, after)
+
+
+class Leaves(Pin):
+    """Sets its pin low, and leaves it so."""
+
+    def wake(self):
+        self.pin(0, 100)
+
+
+class BothWays(Pin):
+    """Pulls by a width, and then by levels."""
+
+    def wake(self):
+        self.pull(600, 100)
+        self.pin(0, 1000)
+
+
+class ByLevels(BitBanged):
+    """The right player, which sets the level of its pin in place of pulling for a width."""
+
+    def pull(self, width, after=0):
+        self.pin(0, after)
+        self.pin(1, after + width)
 
 
 class Touches(Pin):
@@ -322,6 +390,14 @@ PIN_CASES = [
     (Overlaps, PLAIN % "pull 5000050 2000\n", ["5000050 0", "5002050 1"], None),
     (Overlaps, PLAIN % "at 5000100 ask press play\nat 5000300 ask release play\n", ["5000100 0", "5000900 1", "5001000 0", "5001100 1"], None),
     (Touches, PLAIN % "", ["5000100 0", "5000751 1"], None),
+    # By levels a low ends where the pin is 1 and the test pulls no more.
+    (Levels, PLAIN % "", ["5000100 0", "5000900 1", "5001000 0", "5001100 1"], None),
+    (Levels, PLAIN % "pulse 5000200 1000\n", ["5000100 0", "5001200 1"], None),
+    (Levels, PLAIN % "pull 5000900 50\n", ["5000100 0", "5000950 1", "5001000 0", "5001100 1"], None),
+    (Levels, PLAIN % "pull 5000901 98\n", ["5000100 0", "5000900 1", "5000901 0", "5000999 1", "5001000 0", "5001100 1"], None),
+    (Levels, PLAIN % "pull 5000050 2000\n", ["5000050 0", "5002050 1"], None),
+    (Levels, PLAIN % "pull 5000050 100\n", ["5000050 0", "5000900 1", "5001000 0", "5001100 1"], None),
+    (Levels, PLAIN % "pull 5000200 100\npull 5000850 100\npull 5001050 10\n", ["5000100 0", "5000950 1", "5001000 0", "5001100 1"], None),
     (Leans, PLAIN.replace("7000000", "30000000") % "", ["5000000 0", "20000000 1", "20000001 0", "20000101 1"], None),
     # An edge is told a microsecond after it. The television polls at 12,000, its start bit rises at 15,700, and it polls again.
     (Hasty, PLAIN % "", ["15701 0", "16101 1"], []),
@@ -362,6 +438,13 @@ def pins_are_exact(pool):
         if run.fault or got != lows or not is_heard or instants != sorted(instants):
             print("suite: a device by pin: %s %s %s %s" % (kind.__name__, run.fault, got, heard))
             right = False
+    run, _ = run_of(BothWays(), PLAIN % "")
+    right = right and run.fault == "both pull and pin in one test"
+    # A pin that is left low keeps the line low to the end.
+    device = Leaves()
+    run, script = run_of(device, PLAIN % "")
+    right = right and run.fault is None and [line for line in script.split("\n") if line.startswith("pin 5")] == ["pin 5000100 0"]
+    right = right and [edge for edge in device.edges if int(edge.split(" ")[0]) >= 5_000_000] == ["5000100 0"]
     most, runner.MOST_PULLS = runner.MOST_PULLS, 300
     run, _ = run_of(Chatters(), PLAIN % "")
     runner.MOST_PULLS = most
@@ -374,7 +457,8 @@ def pins_are_judged(pool):
     suite.frames = FRAMES
     want = {
         "address-first": ["# fails: expect within 200000 of call 0>4 ack"],
-        "osd-name": ["# fails: label asked expect within 500000 of ask 0>4 give-osd-name ack", "# fails: expect once within 3000000 of asked 4>0 set-osd-name"],
+        "osd-name": ["# fails: label asked expect within 500000 of ask 0>4 give-osd-name ack", "# fails: expect once within 3000000 of asked 4>0 set-osd-name",
+                     "# fails: expect none within 3000000 of asked 4>0 set-osd-name :*"],
     }
     right = True
     for name, fails in want.items():
@@ -394,6 +478,8 @@ def ill_formed_tests(pool):
         (HEAD + SEAT + "at x send tv 0>4\nend 9000000\n", "line 8: a number or a word is missing"),
         (HEAD + SEAT + "label a\nend 9000000\n", "line 8: a number or a word is missing"),
         (HEAD + SEAT + "frob\nend 9000000\n", "line 8: no such line"),
+        (HEAD + SEAT + "at 3000000 settle\nend 9000000\n", "line 8: who asks whom is missing"),
+        (HEAD + SEAT + "at 3000000 settle tv 0\nend 9000000\n", "line 8: who asks whom is missing"),
         (HEAD + SEAT + "at 3000000 send tv 0>{fourth} give-osd-name\nend 9000000\n", "no place {fourth} for a player"),
         (HEAD + SEAT + "at 3000000 send tv 0>4 give-osd-nam\nend 9000000\n", "frame name"),
         (HEAD + SEAT + "expect within 500 of nothing 0>4\nend 9000000\n", "the test is refused: hdminet: script line "),
@@ -440,6 +526,10 @@ def broken_devices(pool):
         (pins % "after 0 pull", 60, "no such line: after 0 pull"),
         (pins % "after 0 wake", 60, "no such line: after 0 wake"),
         (pins % "by pin", 60, "no such line: by pin"),
+        (pins % "after 0 pin 2", 60, "no such line: after 0 pin 2"),
+        (pins % "after 0 pin 0 1", 60, "no such line: after 0 pin 0 1"),
+        (answers % "after 0 pin 0", 60, "no such line: after 0 pin 0"),
+        ("sh -c 'while read line; do printf \"idle\\r\\n\"; done'", 60, "it holds no logical address: send tv 0>{la} give-osd-name"),
         ("sh -c 'while read line; do echo idle; done'", 60, "it holds no logical address: send tv 0>{la} give-osd-name"),
     ]
     right = True
@@ -552,7 +642,7 @@ def of_talk(name):
                 now = int(words[2])
             elif words[1] == "after" and words[3] in ("send", "hold") and not is_unplugged:
                 at = now + int(words[2])
-                right = right and (at >= test.end or "%d %s" % (at, words[3]) in taken)
+                right = right and (at >= run.end or "%d %s" % (at, words[3]) in taken)
         text, _ = run.kept()
         plain = subprocess.run([PROGRAM, "check", "--plain"], input=text, capture_output=True, text=True).stdout
         trace = subprocess.run([PROGRAM, "run"], input=plain, capture_output=True, text=True).stdout
@@ -597,6 +687,7 @@ WHAT = [
     ticking_devices,
     instants_are_kept,
     greedy_devices,
+    settling_devices,
     unplugged_devices,
     pins_are_exact,
     pins_are_judged,

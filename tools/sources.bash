@@ -78,7 +78,7 @@ is_of_these_sources() {
 
 # The crates of the library for C and Python that export its calls, and what of it is released.
 LIBRARY_CRATES=(hdminet_wire hdminet_c)
-LIBRARY_FILES=(lib/libhdminet_wire.a lib/libhdminet.a lib/libhdminet.so include/hdminet_wire.h include/hdminet.h python/hdminet.py)
+LIBRARY_FILES=(lib/libhdminet_wire.a lib/libhdminet.a lib/libhdminet.so include/hdminet_wire.h include/hdminet.h)
 
 # Whether each file of the released library has the sum that stands beside it.
 is_whole_library() {

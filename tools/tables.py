@@ -5,7 +5,7 @@ import re
 
 WORD = re.compile(r'[A-Za-z0-9]+')
 # Comments, texts and characters of a source: a comment begins with / or #, and a character of Rust with one mark.
-RUST = re.compile(r'//[^\n]*|b?"(?:[^"\\]|\\.)*"|\'(?:[^\'\\\n]|\\[^\n]{1,9}?)\'', re.S)
+RUST = re.compile(r'//[^\n]*|r#".*?"#|b?"(?:[^"\\]|\\.)*"|\'(?:[^\'\\\n]|\\[^\n]{1,9}?)\'', re.S)
 PYTHON = re.compile(r'#[^\n]*|("""|\'\'\').*?\1|"(?:[^"\\\n]|\\.)*"|\'(?:[^\'\\\n]|\\.)*\'', re.S)
 # Of a line of definitions or code: a text, a number, a mark, a remark, another word.
 TOKEN = re.compile(r'"((?:[^"\\]|\\.)*)"|(0x[0-9a-fA-F_]+|(?<![\w.])\d[\d_]*(?![\w.]))|([()∷,])|((?:--|//).*)|([^\s"()∷,]+)')
@@ -55,6 +55,9 @@ def texts_of(source, form):
     for found in form.finditer(source):
         if is_text(form, found[0]):
             begin, end = source.rfind('\n', 0, found.start()) + 1, source.find('\n', found.start())
+            if found[0].startswith('r#'):
+                yield found[0][3:-2], source[begin:end]
+                continue
             yield unescaped(re.sub(r'^b?("""|\'\'\'|"|\')|("""|\'\'\'|"|\')$', '', found[0])), source[begin:end]
 
 

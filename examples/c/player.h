@@ -24,6 +24,7 @@ static const struct message { const char *name; unsigned least; bool direct, to_
     {"routing-change", 4, false, true}, {"active-source", 2, false, true}, {"give-physical-address", 0, true, false},
     {"request-active-source", 0, false, true}, {"set-stream-path", 2, false, true}, {"give-device-vendor-id", 0, true, false},
     {"give-device-power-status", 0, true, false}, {"get-cec-version", 0, true, false}, {"set-menu-language", 3, false, true},
+    {"system-audio-mode-status", 1, true, false},
 };
 
 /* Says a frame's text, 20 ms after it heard what it answers. */

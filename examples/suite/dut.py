@@ -6,8 +6,8 @@ A device is a class below `Dut`, which overrides what it acts on, and ends its p
         def address(self, physical):
             self.send([0x44])
 
-One that pulls the line itself sets `by_pin`: it is told each edge of the line, by `line`, and no frames, and has `pull` and
-`wake_up` alone:
+One that pulls the line itself sets `by_pin`: it is told each edge of the line, by `line`, and no frames, and has `pull` or
+`pin`, and `wake_up` alone:
 
     class Stuck(Dut):
         by_pin = True
@@ -49,6 +49,10 @@ class Dut:
     def pull(self, width, after=0):
         """Pulls the line low by its pin: a microsecond after an edge at the soonest."""
         self.actions.append("after %d pull %d" % (after, width))
+
+    def pin(self, level, after=0):
+        """Sets the level of its pin, 0 or 1, in place of `pull`: low until it is 1 again."""
+        self.actions.append("after %d pin %d" % (after, level))
 
     # What comes. Each does nothing here.
 

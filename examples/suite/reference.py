@@ -2,9 +2,11 @@
 """A television, a player, a recorder, a tuner, an amplifier or a switch that keeps HDMI 1.4, CEC, as a device under test:
 
     tools/suite --dut examples/suite/reference.py --kind player
+    tools/suite --dut 'examples/suite/reference.py record timers tuner' --kind recorder --with record --with timers --with tuner
 
 It takes 20 ms to answer. What it does on a frame are its methods `on_XX`, by the opcode in hex."""
 
+import sys
 from collections import namedtuple
 
 from dut import Dut
@@ -45,12 +47,13 @@ MESSAGES = {
     0x45: Message(0, DIRECT, DECKS + AMP + TV),  # User Control Released
     0x46: Message(0, DIRECT, ALL),  # Give OSD Name
     0x47: Message(1, DIRECT, ALL),  # Set OSD Name
+    0x64: Message(1, DIRECT, TV),  # Set OSD String
     0x70: Message(0, DIRECT, AMP),  # System Audio Mode Request
     0x71: Message(0, DIRECT, AMP),  # Give Audio Status
     0x72: Message(1, BOTH, ALL),  # Set System Audio Mode
     0x7A: Message(1, DIRECT, TV),  # Report Audio Status
     0x7D: Message(0, DIRECT, AMP),  # Give System Audio Mode Status
-    0x7E: Message(1, DIRECT, TV),  # System Audio Mode Status
+    0x7E: Message(1, DIRECT, ALL),  # System Audio Mode Status
     0x80: Message(4, TO_ALL, ALL),  # Routing Change
     0x81: Message(2, TO_ALL, ALL),  # Routing Information
     0x82: Message(2, TO_ALL, ALL),  # Active Source
@@ -76,11 +79,34 @@ MESSAGES = {
     0xC5: Message(0, DIRECT, TV),  # Terminate ARC
     0xFF: Message(0, DIRECT, ALL),  # Abort
 }
+# What a device obeys that has a feature beside: it records, has timers, or a tuner.
+RECORDERS = ("recorder", "tuner")
+FEATURES = {
+    "record": {
+        0x09: Message(1, DIRECT, RECORDERS),  # Record On
+        0x0B: Message(0, DIRECT, RECORDERS),  # Record Off
+    },
+    "timers": {
+        0x97: Message(10, DIRECT, RECORDERS),  # Set Digital Timer
+        0x99: Message(10, DIRECT, RECORDERS),  # Clear Digital Timer
+    },
+    "tuner": {
+        0x05: Message(0, DIRECT, RECORDERS),  # Tuner Step Increment
+        0x06: Message(0, DIRECT, RECORDERS),  # Tuner Step Decrement
+        0x08: Message(1, DIRECT, RECORDERS),  # Give Tuner Device Status
+        0x93: Message(7, DIRECT, RECORDERS),  # Select Digital Service
+    },
+}
+# CEC 17: the displays of Set OSD String, and the codes that mute and that restore the volume.
+DISPLAYS = (0x00, 0x40, 0x80)
+MUTE, MUTE_FUNCTION, RESTORE_FUNCTION = 0x43, 0x65, 0x66
+RECORDS_SOURCE, RECORD_STOPPED, TIMER_SET, TIMER_CLEARED = 0x01, 0x1A, 0x18, 0x80
 
 
 class Reference(Dut):
-    # How long it thinks before it answers.
+    # How long it thinks before it answers, and what it has beside what each device of its kind has.
     thinks = THINKS
+    has = ()
 
     def start(self, kind):
         self.candidates, self.la, self.physical = [], None, None
@@ -163,6 +189,8 @@ class Reference(Dut):
 
     def obey(self, initiator, is_direct, opcode, operands):
         known = MESSAGES.get(opcode)
+        for feature in self.has:
+            known = FEATURES[feature].get(opcode, known)
         if known is None or self.kind not in known.kinds:
             if is_direct:
                 self.refuse(initiator, opcode, UNRECOGNIZED)
@@ -200,12 +228,17 @@ class Reference(Dut):
     def on_42(self, initiator, operands):
         if operands[0] not in CONTROLS:
             return INVALID_OPERAND
-        if not self.on or (self.deck == DECK_NO_MEDIUM and operands[0] != 4):
+        ejects = operands[0] == 4
+        if not ejects and (not self.on or self.deck == DECK_NO_MEDIUM):
             return WRONG_MODE
+        self.on = self.on or ejects
         self.set_deck(CONTROLS[operands[0]])
 
     def on_46(self, initiator, operands):
         self.say(initiator, 0x47, *b"DUT")
+
+    def on_64(self, initiator, operands):
+        return None if operands[0] in DISPLAYS else INVALID_OPERAND
 
     def on_83(self, initiator, operands):
         self.report_physical()
@@ -303,9 +336,9 @@ class Reference(Dut):
     def act(self, code):
         if self.is_deck() and self.deck != DECK_NO_MEDIUM and code in (0x44, 0x45, 0x46):
             self.set_deck({0x44: DECK_PLAY, 0x45: DECK_STOP, 0x46: DECK_STILL}[code])
-        elif self.kind == "amp" and code in (0x41, 0x42, 0x43):
-            self.mute ^= code == 0x43
-            self.volume = max(0, min(100, self.volume + {0x41: 1, 0x42: -1, 0x43: 0}[code]))
+        elif self.kind == "amp" and code in (0x41, 0x42, MUTE, MUTE_FUNCTION, RESTORE_FUNCTION):
+            self.mute = {MUTE: not self.mute, MUTE_FUNCTION: True, RESTORE_FUNCTION: False}.get(code, self.mute)
+            self.volume = max(0, min(100, self.volume + {0x41: 1, 0x42: -1}.get(code, 0)))
             if self.audio:
                 self.report_audio(self.by)
 
@@ -351,6 +384,29 @@ class Reference(Dut):
         if initiator != TELEVISION:
             return REFUSED
         self.say(initiator, 0xC5)
+
+    # What a device has beside: it records, has timers or a tuner (CEC 13.4, 13.5, 13.8).
+
+    def on_09(self, initiator, operands):
+        if operands[0] not in (1, 2, 3, 4, 5):
+            return INVALID_OPERAND
+        self.say(initiator, 0x0A, RECORDS_SOURCE)
+
+    def on_0b(self, initiator, operands):
+        self.say(initiator, 0x0A, RECORD_STOPPED)
+
+    def on_97(self, initiator, operands):
+        self.say(initiator, 0x35, TIMER_SET)
+
+    def on_99(self, initiator, operands):
+        self.say(initiator, 0x43, TIMER_CLEARED)
+
+    def on_08(self, initiator, operands):
+        if operands[0] not in (1, 2, 3):
+            return INVALID_OPERAND
+        if operands[0] != 2:
+            # It shows a digital tuner, and its service.
+            self.say(initiator, 0x07, 0, 0, 0, 0, 0, 0, 0, 0)
 
     # Its own keys.
 
@@ -406,4 +462,6 @@ class Reference(Dut):
 
 
 if __name__ == "__main__":
-    Reference().serve()
+    device = Reference()
+    device.has = sys.argv[1:]
+    device.serve()

@@ -287,7 +287,7 @@ class IgnoresLong(Reference):
     """Ignores a frame with too many operands."""
 
     def obey(self, initiator, is_direct, opcode, operands):
-        if opcode not in MESSAGES or len(operands) <= MESSAGES[opcode].least or opcode == 0x70:
+        if opcode not in MESSAGES or len(operands) <= MESSAGES[opcode].least or opcode in (0x64, 0x70):
             super().obey(initiator, is_direct, opcode, operands)
 
 

@@ -148,6 +148,59 @@ class AlwaysOff(Reference):
         self.say(initiator, 0x90, 1)
 
 
+class InTransition(Reference):
+    """Says that it is in transition for a time after it was put to standby or woken."""
+    takes = 4_300_000
+    changed_at = None
+    is_on = True
+
+    @property
+    def on(self):
+        return self.is_on
+
+    @on.setter
+    def on(self, is_on):
+        if is_on != self.is_on:
+            self.changed_at = self.now
+        self.is_on = is_on
+
+    def renew(self):
+        super().renew()
+        self.changed_at = None
+
+    def on_8f(self, initiator, operands):
+        is_over = self.changed_at is None or self.now - self.changed_at >= self.takes
+        self.say(initiator, 0x90, (0 if self.on else 1) if is_over else 2 if self.on else 3)
+
+
+@slip("player")
+class SettlesSlowly(InTransition):
+    """Is in transition for six seconds, as it may."""
+    takes = 6_000_000
+
+
+@slip("recorder")
+class SettlesLate(InTransition):
+    """Is in transition for more than a minute."""
+    takes = 61_000_000
+
+
+@slip("player")
+class NeverSettles(InTransition):
+    """Says that it is in transition for ever."""
+    takes = float("inf")
+
+
+@slip("amp")
+class NeverSettlesAmp(NeverSettles):
+    """The same of an amplifier."""
+
+
+@slip("tv")
+class NeverSettlesTelevision(NeverSettles):
+    """The same of a television."""
+
+
 # Decks
 
 @slip("recorder")

@@ -40,7 +40,9 @@ class Handle:
     def __init__(self, adapter, link, process):
         self.adapter, self.link, self.process = adapter, link, process
         self.initiator, self.follower = cec.MODE_INITIATOR, 0
-        self.messages, self.events, self.edges = collections.deque(), collections.OrderedDict(), collections.deque()
+        self.messages: collections.deque[Message] = collections.deque()
+        self.events: dict[int, tuple] = {}
+        self.edges: collections.deque[tuple] = collections.deque()
         self.watchers = []
         with socket.create_server(("127.0.0.1", 0)) as listener:
             self.descriptor = socket.create_connection(listener.getsockname())
@@ -203,7 +205,7 @@ class Adapter:
         """Claims addresses as the framework does: of each type the first address whose poll nobody acknowledges. It stops at each poll, until
         `poll_over` goes on."""
         given = self.log_addrs
-        mine = []
+        mine: list[int] = []
         if given.types[0] != cec.TYPE_UNREGISTERED:
             for place in range(given.count):
                 kind = cec.TYPE_SPECIFIC if self.physical and given.types[place] == cec.TYPE_TV else given.types[place]
@@ -490,6 +492,9 @@ class Adapter:
         if not 1 <= message.len <= 16 or message.timeout and message.len == 1:
             return cec.EINVAL
         message.msg = message.frame.ljust(16, b"\0")
+        if message.opcode == cec.CDC and message.len >= cec.CDC_HEAD:
+            # The framework says which device of the tree a CDC message comes from.
+            message.msg = message.msg[:2] + self.physical.to_bytes(2, "big") + message.msg[cec.CDC_HEAD:]
         is_to_itself = self.is_configured and not message.is_broadcast and self.has(message.destination)
         if message.len == 1 and message.is_broadcast or message.len > 1 and is_to_itself:
             return cec.EINVAL

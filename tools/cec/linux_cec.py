@@ -39,7 +39,7 @@ VERSION_1_4, VERSION_2_0 = 5, 6
 PRIMARY_PROCESSOR, PRIMARY_SWITCH = 7, 6
 TYPE_TV, TYPE_RECORD, TYPE_PLAYBACK, TYPE_AUDIO, TYPE_SPECIFIC, TYPE_UNREGISTERED = 0, 1, 3, 4, 5, 6
 # The addresses of each type, in the order in which they are polled. 12 and 13 are of CEC 2.0.
-ADDRESSES_OF_TYPE = {0: [0], 1: [1, 2, 9, 12, 13], 2: [3, 6, 7, 10, 12, 13], 3: [4, 8, 11, 12, 13], 4: [5], 5: [14, 12, 13], 6: []}
+ADDRESSES_OF_TYPE: dict[int, list[int]] = {0: [0], 1: [1, 2, 9, 12, 13], 2: [3, 6, 7, 10, 12, 13], 3: [4, 8, 11, 12, 13], 4: [5], 5: [14, 12, 13], 6: []}
 
 # Messages that the framework knows by their opcodes.
 FEATURE_ABORT, ABORT = 0x00, 0xFF
@@ -47,6 +47,8 @@ GET_VERSION, VERSION, GIVE_FEATURES, REPORT_FEATURES = 0x9F, 0x9E, 0xA5, 0xA6
 GIVE_PHYSICAL, REPORT_PHYSICAL, GIVE_VENDOR, DEVICE_VENDOR = 0x83, 0x84, 0x8C, 0x87
 GIVE_OSD_NAME, SET_OSD_NAME, GIVE_POWER = 0x46, 0x47, 0x8F
 PRESSED, RELEASED, RECORD_ON, INITIATE_ARC, REPORT_ARC_INITIATED, REPORT_ARC_TERMINATED, CDC = 0x44, 0x45, 0x09, 0xC0, 0xC1, 0xC2, 0xF8
+# A CDC message begins with its header, its opcode, and the physical address of who sends it.
+CDC_HEAD = 4
 # Reasons of a Feature Abort.
 UNRECOGNISED, REFUSED = 0, 4
 
@@ -83,6 +85,20 @@ class Message:
     """struct cec_msg."""
 
     FIELDS = ("tx_ts", "rx_ts", "len", "timeout", "sequence", "flags", "msg", "reply", "rx_status", "tx_status", "arb_lost", "nack", "low_drive", "error")
+    tx_ts: int
+    rx_ts: int
+    len: int
+    timeout: int
+    sequence: int
+    flags: int
+    msg: bytes
+    reply: int
+    rx_status: int
+    tx_status: int
+    arb_lost: int
+    nack: int
+    low_drive: int
+    error: int
 
     def __init__(self, raw=bytes(_MSG.size)):
         for name, value in zip(self.FIELDS, _MSG.unpack(raw)):

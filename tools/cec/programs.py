@@ -1,13 +1,20 @@
-"""What cec-device and cec-adapter both need: the hdminet that they drive, and what they keep of a session."""
+"""What the tools around programs need: the hdminet that they drive, the library that programs load first, how programs are ended, and what is kept
+of a session."""
 
 import os
 import shutil
+import signal
+import subprocess
+import time
 
 from room import Refused
 
-TOP = os.path.dirname(os.path.dirname(os.path.dirname(os.path.realpath(__file__))))
+HERE = os.path.dirname(os.path.realpath(__file__))
+TOP = os.path.dirname(os.path.dirname(HERE))
 # How long the devices of the room have to find their addresses before a program begins, in microseconds.
 SETTLED = 1_500_000
+# How long a program that is asked to end may take, in seconds.
+GRACE = 2
 
 
 def found_program():
@@ -16,6 +23,37 @@ def found_program():
         if path and os.access(path, os.X_OK):
             return path
     raise Refused("no hdminet is found; HDMINET names one")
+
+
+def built_shim(folder):
+    """The library that the programs load first: one that stands beside its source, or one that is compiled now."""
+    beside = os.path.join(HERE, "shim.so")
+    if os.path.exists(beside):
+        return beside
+    built = os.path.join(folder, "shim.so")
+    command = [os.environ.get("CC", "cc"), "-O2", "-Wall", "-Werror", "-shared", "-fPIC", "-o", built, os.path.join(HERE, "shim.c"), "-ldl"]
+    try:
+        ran = subprocess.run(command, capture_output=True, text=True)
+    except OSError as error:
+        raise Refused("%s: %s; a compiler of C makes tools/cec/shim.so" % (command[0], error.strerror)) from None
+    if ran.returncode != 0:
+        raise Refused("tools/cec/shim.c is not compiled: %s" % ran.stderr.strip())
+    return built
+
+
+def end_group(program):
+    """Ends a program and all that it has started: first by asking, and after a time at once."""
+    for number in (signal.SIGTERM, signal.SIGKILL):
+        until = time.monotonic() + GRACE
+        while time.monotonic() < until:
+            try:
+                os.killpg(program.pid, number)
+            except ProcessLookupError:
+                program.wait()
+                return
+            # One that has ended counts no more once it is waited for.
+            program.poll()
+            time.sleep(0.01)
 
 
 def keep(folder, name, text):

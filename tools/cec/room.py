@@ -7,6 +7,8 @@ import collections
 import json
 import subprocess
 import time
+from collections.abc import Callable
+from typing import Any
 
 from linux_cec import INVALID_PHYSICAL, TX_ARB_LOST, TX_ERROR, TX_LOW_DRIVE, TX_NACK, TX_OK
 
@@ -212,10 +214,13 @@ class Seat:
 
     def __init__(self, room, name):
         self.room, self.name = room, name
-        self.queue, self.sending = collections.deque(), None
+        self.queue: collections.deque[Sending] = collections.deque()
+        self.sending: Sending | None = None
         self.physical, self.is_moved = INVALID_PHYSICAL, True
         self.to_drop = self.to_send_again = False
-        self.on_sent = self.on_frame = self.on_place = lambda *_: None
+        self.on_sent: Callable[[Any, int, dict, int], None] = lambda *_: None
+        self.on_frame: Callable[[dict], None] = lambda *_: None
+        self.on_place: Callable[[int], None] = lambda *_: None
         room.seats[name] = self
 
     def hold(self, addresses):

@@ -34,13 +34,30 @@ class Process:
         self.handles, self.is_beside = 0, is_beside
 
 
+class Reply:
+    """The answer to a call, which is given once: at once or later."""
+
+    def __init__(self, server, link, number, call, process):
+        self.server, self.link, self.number, self.name, self.process = server, link, number, call, process
+
+    def __call__(self, result, data=b""):
+        if self.server.log:
+            self.server.log("%d call %d of handle %d: %d %s" % (self.server.room.horizon, self.name & 0xFF, self.number, result, data.hex()))
+        self.server.answers.append((self.process, self.link, ANSWER.pack(result, self.number, len(data)) + data))
+
+    def is_gone(self):
+        """Whether the program has hung up."""
+        return self.link.fileno() < 0
+
+
 class Server:
     def __init__(self, room, clock, seats, path, stall, log=None):
         self.room, self.clock, self.path, self.stall, self.log = room, clock, path, stall, log
         self.timers, self.handles, self.next_handle = [], {}, 1
         self.adapters = [Adapter(room, clock, self.later, name, number) for number, name in enumerate(seats)]
         # The processes with handles; in the room's time those that are at work, since when, and the answers that wait for their turn.
-        self.processes, self.working, self.worked_since, self.answers = {}, set(), time.monotonic(), collections.deque()
+        self.processes, self.working, self.worked_since = {}, set(), time.monotonic()
+        self.answers: collections.deque[tuple] = collections.deque()
         # Who waits until so many programs run beside; how many lines of `cec-room` wait for an instant.
         self.barriers, self.sleepers = [], 0
         self.shared = None
@@ -125,11 +142,7 @@ class Server:
     def call(self, link, number, call, given, nonblock, pid):
         handle = self.handles.get(number)
 
-        def reply(result, data=b""):
-            if self.log:
-                self.log("%d call %d of handle %d: %d %s" % (self.room.horizon, call & 0xFF, number, result, data.hex()))
-            self.answers.append((pid, link, ANSWER.pack(result, number, len(data)) + data))
-        reply.is_gone = lambda: link.fileno() < 0
+        reply = Reply(self, link, number, call, pid)
         if handle is None:
             reply(-ENODEV)
         else:

@@ -7,7 +7,7 @@
  * does, so that select, poll and epoll work as they are, and so do O_NONBLOCK and inheritance by fork. Each ioctl is a packet to the server
  * with the bytes of its structure, and a packet back.
  *
- * Where HDMINET_CEC_CLOCK names a file, the process lives in the room's time: clocks tell it, and sleep, select and poll wait in it. The
+ * Where HDMINET_CEC_CLOCK names a file, the process lives in the room's time: clocks tell it, and sleep, select, poll and epoll wait in it. The
  * server goes on with the room while each process waits, so nothing hangs on the load of the machine. This is for programs of one
  * thread. */
 #define _GNU_SOURCE
@@ -23,6 +23,7 @@
 #include <stdio.h>
 #include <stdlib.h>
 #include <string.h>
+#include <sys/epoll.h>
 #include <sys/ioctl.h>
 #include <sys/mman.h>
 #include <sys/select.h>
@@ -228,6 +229,19 @@ int dup3(int old, int new, int flags)
     BELOW(dup3);
     return doubled(old, below(old, new, flags));
 }
+#define CONTROLS(name)                                     \
+    int name(int descriptor, int command, ...)             \
+    {                                                      \
+        va_list given;                                     \
+        va_start(given, command);                          \
+        void *argument = va_arg(given, void *);            \
+        va_end(given);                                     \
+        BELOW(name);                                       \
+        int result = below(descriptor, command, argument); \
+        return command == F_DUPFD || command == F_DUPFD_CLOEXEC ? doubled(descriptor, result) : result; \
+    }
+CONTROLS(fcntl)
+CONTROLS(fcntl64)
 
 int ioctl(int descriptor, unsigned long call, ...)
 {
@@ -480,17 +494,104 @@ unsigned sleep(unsigned seconds)
     wait_in_room(in(seconds * 1000000ULL), 0, 0);
     return 0;
 }
+int clock_nanosleep(clockid_t which, int flags, const struct timespec *of, struct timespec *left)
+{
+    BELOW(clock_nanosleep);
+    if (!is_in_room_time() || (which != CLOCK_REALTIME && which != CLOCK_MONOTONIC))
+        return below(which, flags, of, left);
+    uint64_t micros = of->tv_sec * 1000000ULL + (of->tv_nsec + 999) / 1000;
+    if (flags & TIMER_ABSTIME) {
+        uint64_t now = (which == CLOCK_REALTIME ? room_clock->real : room_clock->monotonic) / 1000 + room_clock->micros;
+        micros = micros > now ? micros - now : 0;
+    }
+    if (has_seat())
+        return wait_in_room(in(micros), 0, 0) < 0 ? errno : 0;
+    struct timespec later = { micros / 1000000, micros % 1000000 * 1000 };
+    return below(CLOCK_MONOTONIC, 0, &later, left);
+}
 int nanosleep(const struct timespec *of, struct timespec *left)
 {
     BELOW(nanosleep);
     return waits_in_room() ? wait_in_room(in(of->tv_sec * 1000000ULL + of->tv_nsec / 1000), 0, 0) : below(of, left);
 }
 
+/* Whether a descriptor may be written to: one of a device of the room while its adapter has an address. */
+static int may_write(int descriptor)
+{
+    struct seat seat;
+    if (!find(descriptor, &seat))
+        return 1;
+    struct interest asked = { seat.handle, WRITES };
+    return wait_in_room(0, &asked, 1) < 0 || asked.ready & WRITES;
+}
+/* By the clock on the wall `poll` waits in the kernel, where a connection can always be written to. So what may not be written to is not asked, and
+ * looked at again each SLICE of milliseconds. */
+enum { SLICE = 20, MOST_POLLED = 64 };
+static int poll_by_wall(struct pollfd *asked, nfds_t count, int limit)
+{
+    BELOW(poll);
+    struct pollfd now[MOST_POLLED];
+    if (count > MOST_POLLED)
+        return below(asked, count, limit);
+    for (;;) {
+        int waits_to_write = 0;
+        for (nfds_t i = 0; i < count; i++) {
+            now[i] = asked[i];
+            if (asked[i].events & POLLOUT && !may_write(asked[i].fd)) {
+                now[i].events &= ~POLLOUT;
+                waits_to_write = 1;
+            }
+        }
+        int slice = waits_to_write && (limit < 0 || limit > SLICE) ? SLICE : limit;
+        int ready = below(now, count, slice);
+        limit -= limit > 0 ? slice : 0;
+        if (ready || !waits_to_write || !limit) {
+            for (nfds_t i = 0; i < count; i++)
+                asked[i].revents = now[i].revents;
+            return ready;
+        }
+    }
+}
+/* `select` by the clock on the wall, in the same way. */
+static int select_by_wall(int count, fd_set *reads, fd_set *writes, fd_set *events, struct timeval *limit)
+{
+    BELOW(select);
+    struct timeval left = limit ? *limit : (struct timeval){ 0, 0 };
+    for (;;) {
+        fd_set read_now, write_now, event_now;
+        int waits_to_write = 0;
+        if (reads)
+            read_now = *reads;
+        if (events)
+            event_now = *events;
+        write_now = *writes;
+        for (int at = 0; at < count; at++)
+            if (FD_ISSET(at, writes) && !may_write(at)) {
+                FD_CLR(at, &write_now);
+                waits_to_write = 1;
+            }
+        struct timeval slice = { 0, SLICE * 1000 };
+        if (limit && (!waits_to_write || timercmp(&left, &slice, <)))
+            slice = left;
+        if (limit)
+            timersub(&left, &slice, &left);
+        int ready = below(count, reads ? &read_now : 0, &write_now, events ? &event_now : 0, limit || waits_to_write ? &slice : 0);
+        if (ready || !waits_to_write || (limit && !timerisset(&left))) {
+            if (reads)
+                *reads = read_now;
+            if (events)
+                *events = event_now;
+            *writes = write_now;
+            return ready;
+        }
+    }
+}
+
 int select(int count, fd_set *restrict reads, fd_set *restrict writes, fd_set *restrict events, struct timeval *restrict limit)
 {
     BELOW(select);
     if (!waits_in_room())
-        return below(count, reads, writes, events, limit);
+        return writes && has_seat() ? select_by_wall(count, reads, writes, events, limit) : below(count, reads, writes, events, limit);
     struct interest watched[MOST_WATCHED];
     struct seat seat;
     int descriptors[MOST_WATCHED], watching = 0, ready = 0;
@@ -538,7 +639,7 @@ int poll(struct pollfd *asked, nfds_t count, int limit)
             watched[watching++] = (struct interest){ seat.handle, wanted };
         }
     if (!is_in_room_time() || !watching)
-        return below(asked, count, limit);
+        return watching ? poll_by_wall(asked, count, limit) : below(asked, count, limit);
     if (wait_in_room(limit < 0 ? UINT64_MAX : in(limit * 1000ULL), watched, watching) < 0)
         return -1;
     for (nfds_t i = 0; i < count; i++)
@@ -549,4 +650,73 @@ int poll(struct pollfd *asked, nfds_t count, int limit)
         ready += is != 0;
     }
     return ready;
+}
+int ppoll(struct pollfd *asked, nfds_t count, const struct timespec *limit, const sigset_t *mask)
+{
+    BELOW(ppoll);
+    if (!waits_in_room())
+        return below(asked, count, limit, mask);
+    return poll(asked, count, limit ? limit->tv_sec * 1000 + (limit->tv_nsec + 999999) / 1000000 : -1);
+}
+int pselect(int count, fd_set *restrict reads, fd_set *restrict writes, fd_set *restrict events, const struct timespec *restrict limit,
+    const sigset_t *restrict mask)
+{
+    BELOW(pselect);
+    if (!waits_in_room())
+        return below(count, reads, writes, events, limit, mask);
+    struct timeval left = { limit ? limit->tv_sec : 0, limit ? (limit->tv_nsec + 999) / 1000 : 0 };
+    return select(count, reads, writes, events, limit ? &left : 0);
+}
+
+/* What is watched of the room's devices by epoll; all else is the kernel's. */
+static struct watched {
+    int epoll, descriptor;
+    struct epoll_event event;
+} watched_by_epoll[MOST_WATCHED];
+int epoll_ctl(int epoll, int how, int descriptor, struct epoll_event *event)
+{
+    BELOW(epoll_ctl);
+    int result = below(epoll, how, descriptor, event);
+    if (result || !find(descriptor, 0))
+        return result;
+    pthread_mutex_lock(&lock);
+    struct watched *place = 0;
+    for (int i = MOST_WATCHED - 1; i >= 0; i--) {
+        struct watched *at = &watched_by_epoll[i];
+        if (at->descriptor == descriptor + 1 && at->epoll == epoll)
+            at->descriptor = 0;
+        if (!at->descriptor)
+            place = at;
+    }
+    if (how != EPOLL_CTL_DEL && place)
+        *place = (struct watched){ epoll, descriptor + 1, *event };
+    pthread_mutex_unlock(&lock);
+    return 0;
+}
+int epoll_wait(int epoll, struct epoll_event *events, int most, int limit)
+{
+    BELOW(epoll_wait);
+    struct interest of[MOST_WATCHED];
+    struct epoll_event wanted[MOST_WATCHED];
+    struct seat seat;
+    int count = 0, ready = 0;
+    for (int i = 0; i < MOST_WATCHED; i++)
+        if (watched_by_epoll[i].epoll == epoll && find(watched_by_epoll[i].descriptor - 1, &seat)) {
+            uint32_t which = watched_by_epoll[i].event.events;
+            wanted[count] = watched_by_epoll[i].event;
+            of[count++] = (struct interest){ seat.handle, (which & EPOLLIN ? READS : 0) | (which & EPOLLPRI ? EVENTS : 0) | (which & EPOLLOUT ? WRITES : 0) };
+        }
+    if (!is_in_room_time() || !count)
+        return below(epoll, events, most, limit);
+    if (wait_in_room(limit < 0 ? UINT64_MAX : in(limit * 1000ULL), of, count) < 0)
+        return -1;
+    for (int i = 0; i < count && ready < most; i++)
+        if (of[i].ready)
+            events[ready++] = (struct epoll_event){ (of[i].ready & READS ? EPOLLIN : 0) | (of[i].ready & EVENTS ? EPOLLPRI : 0) | (of[i].ready & WRITES ? EPOLLOUT : 0), wanted[i].data };
+    return ready;
+}
+int epoll_pwait(int epoll, struct epoll_event *events, int most, int limit, const sigset_t *mask)
+{
+    BELOW(epoll_pwait);
+    return waits_in_room() ? epoll_wait(epoll, events, most, limit) : below(epoll, events, most, limit, mask);
 }

@@ -1,6 +1,7 @@
 """The rules that an EDID is to keep, and the other ways in which `edid` writes one: a plain model."""
 import collections
 
+import blocks as tables
 import merge
 
 from edid import check_edid, edid_text, first_hdmi, hdmi_place, is_hdmi, port_edid, read_ext
@@ -292,6 +293,23 @@ def sort_of(tag, data):
     return 'speakers' if tag == 4 else 'forum' if tag == 3 and bytes(data[:3]) == b'\xd8\x5d\xc4' else None
 
 
+def names_reserved(tag, data):
+    """a rule of its own names a reserved value of the block"""
+    if tag == 1:
+        return any(data[i] >> 3 & 15 == 0 for i in range(0, len(data) - 2, 3))
+    if tag == 2 or tag == 7 and data[:1] == b'\x0e':
+        return any(c > 219 for c in data)
+    if tag == 7 and data[:1] == b'\x06':
+        return (data + b'\0')[1] > 15 or (data + b'\0\0')[2] > 1
+    return is_hdmi(tag, data) and any(c not in HDMI_CODES for c in hdmi_video_codes(data))
+
+
+def names_length(tag, data):
+    """a rule of its own names the length of the block"""
+    least = {0: 2, 5: 3, 6: 3}
+    return tag == 1 and len(data) % 3 or tag == 4 and len(data) != 3 or tag == 7 and len(data) < (least.get(data[0], 1) if data else 1)
+
+
 def edid_findings(e, is_port):
     b = e[:128]
     four = b[19] == 4
@@ -437,6 +455,10 @@ def edid_findings(e, is_port):
         yield 'warn', 'srgb-gamma'
     if b[20] & 128 and (b[20] >> 4 & 7 == 7 or b[20] & 15 > 5 if four else b[20] & 126):
         yield 'fail', 'input-reserved'
+    if any(tables.judge(tag, data)[0] and not names_reserved(tag, data) for tag, data in blocks):
+        yield 'warn', 'reserved'
+    if any(tables.judge(tag, data)[1] and not names_length(tag, data) for tag, data in blocks):
+        yield 'warn', 'length'
 
 
 def timings_of(e):

@@ -895,7 +895,8 @@ def near_pattern(r, line):
 def said(r):
     """what the line of a round may say, whoever sends"""
     if r.random() < .15:
-        text = r.choice(['short', 'silent', 'bad-start', 'long']) + ' ' + (''.join(r.choice('01') for _ in range(r.randrange(1, 20))) if r.random() < .7 else '-')
+        ending = r.choice(['short', 'silent', 'bad-start', 'long'])
+        text = ending + ' ' + (''.join(r.choice('01') for _ in range(r.randrange(1, 20))) if ending != 'bad-start' and r.random() < .7 else '-')
     else:
         frame = gen_frame(r)
         text = '%s %s' % (frame, r.choice(['ok', 'refused'] if frame[2] == 'f' else ['ack', 'nack']))
@@ -1019,10 +1020,18 @@ def gen_expect(r):
 
 
 
+def near_word(r, word):
+    """another word of a state, or one next to it"""
+    key, _, value = word.rpartition('=')
+    if key and r.random() < .4: return '%s=%s' % (key, r.choice(['0' + value, value + '0', value + value, value.upper(), '-', '', '0', '15', '16', '17', '100', '101', str(2 ** 64 - 1), str(2 ** 64)]))
+    if '+' in word and r.random() < .4: return r.choice(['-+-', '-+4', '4+-', '4+8', '+'])
+    return r.choice(['on', 'active=-', 'volume=20', 'standby', word + 'x', word[:-1]])
+
+
 def gen_state(r, trace, end):
     """words of a device's state line, some of them changed, at any time"""
     state = r.choice([l for l in trace if l.startswith('state ')]).split(' ')
-    words = [w if r.random() < .9 else r.choice(['on', 'active=-', 'volume=20', 'standby', w + 'x', w[:-1]]) for w in r.sample(state[1:], r.choice([1, 1, 2, 4]))]
+    words = [w if r.random() < .9 else near_word(r, w) for w in r.sample(state[1:], r.choice([1, 1, 2, 4]))]
     at = r.choice([end, end, end - 1, r.randrange(end + 1), r.randrange(end + 1), end + 1 if r.random() < .1 else 1])
     return 'expect state %d %s %s%s' % (at, state[1] if r.random() < .98 else 'nosuch', 'not ' if r.random() < .25 else '', ' '.join(words))
 

@@ -8,9 +8,12 @@ ROUND = re.compile(rb'\d+ \d+ (complete|short|silent|bad-start|long) ')
 EVENT = re.compile(rb'(\d+) event (\d+) (ok|refused ([a-z-]+))')
 PHYSICAL = rb'[0-9a-f]\.[0-9a-f]\.[0-9a-f]\.[0-9a-f]'
 STATE_WORD = re.compile(rb'|'.join((
-    rb'tv|amp|player|recorder|switch|combo|outside|outside-tv|on|standby|-', rb'[0-9a-f]', rb'[0-9a-f-]\+[0-9a-f-]', PHYSICAL,
-    rb'(active|path)=(-|' + PHYSICAL + rb')', rb'(deck|held)=(-|[0-9a-f]{2})', rb'(menu|audio|mute|arc)=(-|on|off)', rb'(volume|sel)=(-|[0-9]+)',
-    rb'(lang|osd)=(-|[0-9a-f]{2,})', rb'heard=(-|[0-9a-f]:[0-9a-f]{2}:[0-9a-f]{2})', rb'sub=(-|[0-9a-f])', rb'(queue|dropped)=[0-9]+')))
+    rb'tv|amp|player|recorder|switch|combo|outside|outside-tv|on|standby|-', rb'[0-9a-f]', rb'[0-9a-f]\+[0-9a-f-]', rb'-\+-', PHYSICAL,
+    rb'(active|path)=(-|' + PHYSICAL + rb')', rb'(deck|held)=(-|[0-9a-f]{2})', rb'(menu|audio|mute|arc)=(-|on|off)', rb'lang=(-|[0-9a-f]{6})',
+    rb'osd=(-|([0-9a-f]{2}){1,16})', rb'heard=(-|[0-9a-f]:[0-9a-f]{2}:[0-9a-f]{2})', rb'sub=(-|[0-9a-f])')))
+# The numbers of a state line, and up to which one each goes; the last two are always there.
+STATE_NUMBER = re.compile(rb'(volume|sel|queue|dropped)=(0|[1-9][0-9]*|-)')
+MOST_OF = {b'volume': 100, b'sel': 15, b'queue': 16, b'dropped': 2 ** 64 - 1}
 SHOWN = 8
 MOST_PATTERN = 160
 MOST_STARS = 4
@@ -131,7 +134,7 @@ def expectations(script, names, end):
             elif it.kind == 'rounds' and it.of is not None and it.of not in labels:
                 causes.append('label')
             if it and (it.kind == 'rounds' and not patterns.is_met(it.pattern, list(names)) or it.kind == 'refused' and it.word not in patterns.REFUSALS
-                    or it.kind == 'state' and not all(STATE_WORD.fullmatch(word) for word in it.words)):
+                    or it.kind == 'state' and not all(map(is_state_word, it.words))):
                 causes.append('pattern')
         if causes:
             raise Fault('script line %d: %s' % (n, min(causes, key=ORDER.index)))
@@ -142,6 +145,14 @@ def expectations(script, names, end):
         if it:
             found.append(it)
     return found, labels, onsets
+
+
+def is_state_word(word):
+    """whether the state line of some device can have this word"""
+    number = STATE_NUMBER.fullmatch(word)
+    if not number: return bool(STATE_WORD.fullmatch(word))
+    if number[2] == b'-': return number[1] in (b'volume', b'sel')
+    return int(number[2]) <= MOST_OF[number[1]]
 
 
 def fits(pattern, text):

@@ -1,11 +1,9 @@
--- A capture audited edge by edge.
+-- A capture whose readings are heard edge by edge.
 use Rattle.std.proofs.Common.{◌≡◌, ℕ, suc, ◌+◌, ◌<◌, ◌≤◌, Bool, true, false, nat_lt, if◌then◌else◌, zero, ◌-◌, ◌&&◌, List, [], ◌∷◌, ◌++◌, length, get_or, drop, Option, append_assoc, refl, arith, ap, ◌∙◌, sym, subst}
 use Rattle.std.proofs.Math.Seq.{drop-cons}
 use Rattle.std.proofs.Math.ListN.{drop_of_length-le}
 use Rattle.std.specs.Option.{option_to_list}
 use Rattle.std.proofs.lemmas.Bool.Decides.{nat_tests}
-use Rattle.text_core.specs.Adds.{Adds, Tally}
-use Rattle.text_core.proofs.Adding.{nothing, then as adds_both}
 use Rattle.line_wave.specs.declared.Edge.{Edge}
 use Rattle.line_wave.specs.Line.{Line, was_low}
 use Rattle.line_reading.specs.declared.times.Windows.{Windows}
@@ -15,7 +13,8 @@ use Rattle.capture_core.proofs.Recording.{before_turn}
 use Rattle.capture_monitor.specs.declared.monitor.Monitor.{Monitor as Watcher}
 use Rattle.capture_monitor.specs.Monitor.{HeardBeforeBy, FollowsEdgeBy, FollowsEndBy}
 use Rattle.capture_monitor.specs.ReadBy.{ended_before_by, readings_by}
-use Rattle.audit_core.specs.Audit.{Tape, after, after_all, audit_text_of, first_tape, summary_text, line_and_remarks, reported_all}
+use Rattle.audit_notes.specs.Lines.{AuditLine}
+use Rattle.audit_core.specs.Audit.{Tape, after, after_all, audit_lines, first_tape, heard_all, heard_lines, summary_lines}
 use Rattle.line_wave.proofs.Waves.{was_now}
 
 -- ---- readings, one after another
@@ -24,11 +23,25 @@ pub after_more : (t : Tape) (xs ys : List Listed) → after_all t (xs ++ ys) ≡
 after_more t [] ys = refl
 after_more t (x ∷ xs) ys = after_more (after x t) xs ys
 
-pub reported_more : (timing : Bool) (t : Tape) (xs ys : List Listed) → reported_all timing t (xs ++ ys) ≡ reported_all timing t xs ++ reported_all timing (after_all t xs) ys
-reported_more timing t [] ys = refl
-reported_more timing t (x ∷ xs) ys =
-    ap (λ (l : List ℕ). line_and_remarks timing t x ++ l) (reported_more timing (after x t) xs ys)
-    ∙ sym (append_assoc (line_and_remarks timing t x) (reported_all timing (after x t) xs) (reported_all timing (after_all (after x t) xs) ys))
+heard_more : (timing : Bool) (t : Tape) (xs ys : List Listed) → heard_all timing t (xs ++ ys) ≡ heard_all timing t xs ++ heard_all timing (after_all t xs) ys
+heard_more timing t [] ys = refl
+heard_more timing t (x ∷ xs) ys =
+    ap (λ (l : List AuditLine). heard_lines timing t x ++ l) (heard_more timing (after x t) xs ys)
+    ∙ sym (append_assoc (heard_lines timing t x) (heard_all timing (after x t) xs) (heard_all timing (after_all (after x t) xs) ys))
+
+-- lines after lines are heard
+abbrev pub Both : {V : Type 0} → (V → List AuditLine → V → Type 0) → Type 0
+Both {V} hears = (a b c : V) (xs ys : List AuditLine) → hears a xs b → hears b ys c → hears a (xs ++ ys) c
+
+-- what is heard of readings goes on with what is kept of them
+pub record GoesOn {T : Type 0} (lines : T → List Listed → List AuditLine) (next : T → List Listed → T) : Type 0 where
+  pub no_lines : (t : T) → lines t [] ≡ []
+  pub no_next : (t : T) → next t [] ≡ t
+  pub more_lines : (t : T) (xs ys : List Listed) → lines t (xs ++ ys) ≡ lines t xs ++ lines (next t xs) ys
+  pub more_next : (t : T) (xs ys : List Listed) → next t (xs ++ ys) ≡ next (next t xs) ys
+
+pub audits_go_on : (timing : Bool) → GoesOn (heard_all timing) after_all
+audits_go_on timing = record { no_lines = λ t. refl; no_next = λ t. refl; more_lines = heard_more timing; more_next = after_more }
 
 -- no edge comes past the end
 pub edge_early : (edges : List Edge) (end k : ℕ) (none : Edge) → EndBy end edges → k < length edges → (get_or edges k none).at ≤ end
@@ -36,9 +49,9 @@ edge_early [] end k none h l = absurd (omega arith)
 edge_early (e ∷ edges) end zero none h l = h.0
 edge_early (e ∷ edges) end (suc k) none h l = edge_early edges end k none h.1 (omega arith)
 
--- ---- the edges up to these are told, and what has ended before the next one is written
+-- ---- the edges up to these are told, and what has ended before the next one is heard
 
-pub record Audited (win : Windows) (c : Captured) (left : List Edge) (m : Watcher) (timing : Bool) (tape : Tape) (old now : Tally) : Type 0 where
+pub record Told {V T : Type 0} (hears : V → List AuditLine → V → Type 0) (lines : T → List Listed → List AuditLine) (next : T → List Listed → T) (first : T) (win : Windows) (c : Captured) (left : List Edge) (m : Watcher) (state : T) (old now : V) : Type 0 where
   pub is_low : Bool
   pub from : ℕ
   pub level : (u : ℕ) → from ≤ u → line_of_edges c.edges u ≡ level_at is_low left u
@@ -47,13 +60,13 @@ pub record Audited (win : Windows) (c : Captured) (left : List Edge) (m : Watche
   pub ends : EndBy c.end left
   pub reach : from ≤ c.end + 1
   pub heard : HeardBeforeBy win m (line_of_edges c.edges) from
-  pub kept : tape ≡ after_all (first_tape c.edges) (ended_before_by win (line_of_edges c.edges) from)
-  pub wrote : Adds old now (reported_all timing (first_tape c.edges) (ended_before_by win (line_of_edges c.edges) from))
+  pub kept : state ≡ next first (ended_before_by win (line_of_edges c.edges) from)
+  pub wrote : hears old (lines first (ended_before_by win (line_of_edges c.edges) from)) now
 
-pub audited_first : (win : Windows) (c : Captured) (m : Watcher) (timing : Bool) (tape : Tape) (old : Tally) → IsCapture c.edges c.end → ((low : Line) → HeardBeforeBy win m low 0)
-    → tape ≡ first_tape c.edges → Audited win c c.edges m timing tape old old
+pub told_first : {V T : Type 0} (hears : V → List AuditLine → V → Type 0) (lines : T → List Listed → List AuditLine) (next : T → List Listed → T) (goes : GoesOn lines next) (first : T) (win : Windows) (c : Captured) (m : Watcher) (state : T) (old : V)
+    → hears old [] old → IsCapture c.edges c.end → ((low : Line) → HeardBeforeBy win m low 0) → state ≡ first → Told hears lines next first win c c.edges m state old old
 unfolding ended_before_by
-audited_first win c m timing tape old is heard first = record {
+told_first hears lines next goes first win c m state old none is heard same = record {
   is_low = false;
   from = 0;
   level = λ u l. refl;
@@ -62,25 +75,25 @@ audited_first win c m timing tape old is heard first = record {
   ends = is.ends;
   reach = omega arith;
   heard = heard (line_of_edges c.edges);
-  kept = first;
-  wrote = nothing old;
+  kept = same ∙ sym (goes.no_next first);
+  wrote = subst (λ (ls : List AuditLine). hears old ls old) (sym (goes.no_lines first)) none;
 }
 
--- what is reported next, and what is written of it
-more_written : (timing : Bool) (t tape : Tape) (xs : List Listed) (reported : Option Listed) (old mid out : Tally) → tape ≡ after_all t xs
-    → Adds old mid (reported_all timing t xs) → Adds mid out (reported_all timing tape (option_to_list reported)) → Adds old out (reported_all timing t (xs ++ option_to_list reported))
-more_written timing t tape xs reported old mid out kept wrote next =
-    subst (λ (z : List ℕ). Adds old out z)
-    (ap (λ (s : Tape). reported_all timing t xs ++ reported_all timing s (option_to_list reported)) kept ∙ sym (reported_more timing t xs (option_to_list reported)))
-    (adds_both old mid out (reported_all timing t xs) (reported_all timing tape (option_to_list reported)) wrote next)
+-- what is reported next, and what is heard of it
+more_written : {V T : Type 0} (hears : V → List AuditLine → V → Type 0) (both : Both hears) (lines : T → List Listed → List AuditLine) (next : T → List Listed → T) (goes : GoesOn lines next) (t state : T) (xs ys : List Listed) (old mid out : V) → state ≡ next t xs
+    → hears old (lines t xs) mid → hears mid (lines state ys) out → hears old (lines t (xs ++ ys)) out
+more_written hears both lines next goes t state xs ys old mid out kept wrote more =
+    subst (λ (z : List AuditLine). hears old z out)
+    (ap (λ s. lines t xs ++ lines s ys) kept ∙ sym (goes.more_lines t xs ys))
+    (both old mid out (lines t xs) (lines state ys) wrote more)
 
-more_kept : (t tape new : Tape) (xs : List Listed) (reported : Option Listed) → tape ≡ after_all t xs → new ≡ after_all tape (option_to_list reported) → new ≡ after_all t (xs ++ option_to_list reported)
-more_kept t tape new xs reported kept next = next ∙ ap (λ (s : Tape). after_all s (option_to_list reported)) kept ∙ sym (after_more t xs (option_to_list reported))
+more_kept : {T : Type 0} (lines : T → List Listed → List AuditLine) (next : T → List Listed → T) (goes : GoesOn lines next) (t state new : T) (xs ys : List Listed) → state ≡ next t xs → new ≡ next state ys → new ≡ next t (xs ++ ys)
+more_kept lines next goes t state new xs ys kept more = more ∙ ap (λ s. next s ys) kept ∙ sym (goes.more_next t xs ys)
 
-pub audited_more : (win : Windows) (c : Captured) (left rest : List Edge) (m new : Watcher) (e : Edge) (reported : Option Listed) (timing : Bool) (tape later : Tape) (old mid out : Tally)
-    → Audited win c left m timing tape old mid → left ≡ e ∷ rest → FollowsEdgeBy win m e reported new → later ≡ after_all tape (option_to_list reported) → Adds mid out (reported_all timing tape (option_to_list reported))
-    → Audited win c rest new timing later old out
-audited_more win c left rest m new e reported timing tape later old mid out audited cut follows next writes = record {
+pub told_more : {V T : Type 0} (hears : V → List AuditLine → V → Type 0) (both : Both hears) (lines : T → List Listed → List AuditLine) (next : T → List Listed → T) (goes : GoesOn lines next) (first : T) (win : Windows) (c : Captured) (left rest : List Edge) (m new : Watcher) (e : Edge) (reported : Option Listed) (state later : T) (old mid out : V)
+    → Told hears lines next first win c left m state old mid → left ≡ e ∷ rest → FollowsEdgeBy win m e reported new → later ≡ next state (option_to_list reported) → hears mid (lines state (option_to_list reported)) out
+    → Told hears lines next first win c rest new later old out
+told_more hears both lines next goes first win c left rest m new e reported state later old mid out told cut follows kept writes = record {
   is_low = e.low;
   from = e.at + 1;
   level = λ u l. past u (omega arith);
@@ -89,16 +102,16 @@ audited_more win c left rest m new e reported timing tape later old mid out audi
   ends = w.ends.1;
   reach = let last = w.ends.0 in omega (arith, last);
   heard = d.0;
-  kept = subst (λ (xs : List Listed). later ≡ after_all (first_tape c.edges) xs) (sym ended) (more_kept (first_tape c.edges) tape later (ended_before_by win low w.from) reported w.kept next);
-  wrote = subst (λ (xs : List Listed). Adds old out (reported_all timing (first_tape c.edges) xs)) (sym ended)
-      (more_written timing (first_tape c.edges) tape (ended_before_by win low w.from) reported old mid out w.kept w.wrote writes);
+  kept = subst (λ (xs : List Listed). later ≡ next first xs) (sym ended) (more_kept lines next goes first state later (ended_before_by win low w.from) (option_to_list reported) w.kept kept);
+  wrote = subst (λ (xs : List Listed). hears old (lines first xs) out) (sym ended)
+      (more_written hears both lines next goes first state (ended_before_by win low w.from) (option_to_list reported) old mid out w.kept w.wrote writes);
 }
   where
     low : Line
     low = line_of_edges c.edges
 
-    w : Audited win c (e ∷ rest) m timing tape old mid
-    w = subst (λ (l : List Edge). Audited win c l m timing tape old mid) cut audited
+    w : Told hears lines next first win c (e ∷ rest) m state old mid
+    w = subst (λ (l : List Edge). Told hears lines next first win c l m state old mid) cut told
 
     after_it : w.from ≤ e.at
     after_it = w.turn.1
@@ -119,25 +132,28 @@ audited_more win c left rest m new e reported timing tape later old mid out audi
     ended = ap (ended_before_by win (line_of_edges c.edges)) (let x : e.at + 1 ≡ suc e.at = omega arith in x) ∙ d.1
 
 -- the end of a capture
-pub audited_end : (win : Windows) (c : Captured) (left : List Edge) (m : Watcher) (reported : Option Listed) (timing : Bool) (tape later : Tape) (old mid out last : Tally)
-    → Audited win c left m timing tape old mid → left ≡ [] → FollowsEndBy win m c.end reported → later ≡ after_all tape (option_to_list reported) → Adds mid out (reported_all timing tape (option_to_list reported))
-    → Adds out last (summary_text c.end later) → Adds old last (audit_text_of timing c (readings_by win (line_of_edges c.edges) c.end))
-audited_end win c left m reported timing tape later old mid out last audited none follows next writes ends =
-    subst (λ (t : Tape). Adds old last (reported_all timing (first_tape c.edges) (readings_by win (line_of_edges c.edges) c.end) ++ summary_text c.end t)) kept
-    (adds_both old out last (reported_all timing (first_tape c.edges) (readings_by win (line_of_edges c.edges) c.end)) (summary_text c.end later) wrote ends)
+pub told_end : {V T : Type 0} (hears : V → List AuditLine → V → Type 0) (both : Both hears) (lines : T → List Listed → List AuditLine) (next : T → List Listed → T) (goes : GoesOn lines next) (first : T) (win : Windows) (c : Captured) (left : List Edge) (m : Watcher) (reported : Option Listed) (state later : T) (old mid out : V)
+    → Told hears lines next first win c left m state old mid → left ≡ [] → FollowsEndBy win m c.end reported → later ≡ next state (option_to_list reported) → hears mid (lines state (option_to_list reported)) out
+    → hears old (lines first (readings_by win (line_of_edges c.edges) c.end)) out × (later ≡ next first (readings_by win (line_of_edges c.edges) c.end))
+told_end hears both lines next goes first win c left m reported state later old mid out told none follows kept writes = (
+  subst (λ (xs : List Listed). hears old (lines first xs) out) (sym read)
+      (more_written hears both lines next goes first state (ended_before_by win (line_of_edges c.edges) w.from) (option_to_list reported) old mid out w.kept w.wrote writes),
+  subst (λ (xs : List Listed). later ≡ next first xs) (sym read) (more_kept lines next goes first state later (ended_before_by win (line_of_edges c.edges) w.from) (option_to_list reported) w.kept kept),
+)
   where
-    w : Audited win c [] m timing tape old mid
-    w = subst (λ (l : List Edge). Audited win c l m timing tape old mid) none audited
+    w : Told hears lines next first win c [] m state old mid
+    w = subst (λ (l : List Edge). Told hears lines next first win c l m state old mid) none told
 
     read : readings_by win (line_of_edges c.edges) c.end ≡ ended_before_by win (line_of_edges c.edges) w.from ++ option_to_list reported
     read = follows (line_of_edges c.edges) w.from w.heard w.reach (λ u k s. w.level u k ∙ sym w.before ∙ sym w.heard.stood.level)
 
-    kept : later ≡ after_all (first_tape c.edges) (readings_by win (line_of_edges c.edges) c.end)
-    kept = subst (λ (xs : List Listed). later ≡ after_all (first_tape c.edges) xs) (sym read) (more_kept (first_tape c.edges) tape later (ended_before_by win (line_of_edges c.edges) w.from) reported w.kept next)
-
-    wrote : Adds old out (reported_all timing (first_tape c.edges) (readings_by win (line_of_edges c.edges) c.end))
-    wrote = subst (λ (xs : List Listed). Adds old out (reported_all timing (first_tape c.edges) xs)) (sym read)
-        (more_written timing (first_tape c.edges) tape (ended_before_by win (line_of_edges c.edges) w.from) reported old mid out w.kept w.wrote writes)
+-- of an audit
+pub audited_end : {V : Type 0} (hears : V → List AuditLine → V → Type 0) (both : Both hears) (win : Windows) (c : Captured) (timing : Bool) (later : Tape) (old out last : V)
+    → hears old (heard_all timing (first_tape c.edges) (readings_by win (line_of_edges c.edges) c.end)) out × (later ≡ after_all (first_tape c.edges) (readings_by win (line_of_edges c.edges) c.end))
+    → hears out (summary_lines c.end later) last → hears old (audit_lines timing c (readings_by win (line_of_edges c.edges) c.end)) last
+audited_end hears both win c timing later old out last told ends =
+    subst (λ (t : Tape). hears old (heard_all timing (first_tape c.edges) (readings_by win (line_of_edges c.edges) c.end) ++ summary_lines c.end t) last) told.1
+    (both old out last (heard_all timing (first_tape c.edges) (readings_by win (line_of_edges c.edges) c.end)) (summary_lines c.end later) told.0 ends)
 
 -- the next edge of a list
 pub next_edge : (edges : List Edge) (k : ℕ) (none : Edge) → k < length edges → drop k edges ≡ get_or edges k none ∷ drop (k + 1) edges

@@ -1,6 +1,7 @@
 pub mod Writing
+pub mod AsLines
+pub mod Times
 pub mod Audited
-pub mod Remarks
 pub mod Plain
 pub mod OneLine
 pub mod KeptReadings

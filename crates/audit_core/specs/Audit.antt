@@ -1,6 +1,6 @@
 -- The audit of a capture: below the line of each reading what there is to remark, in order, and at the end the widths of
 -- all readings (own).
-use Rattle.std.specs.Prelude.{◌≡◌, ℕ, Bool, nat_lt, ◌&&◌, if◌then◌else◌, List, [], ◌∷◌, ◌++◌, Option, Some, None, codes}
+use Rattle.std.specs.Prelude.{◌≡◌, ℕ, Bool, true, nat_lt, ◌&&◌, if◌then◌else◌, List, [], ◌∷◌, ◌++◌, Option, Some, None, option_map, Result, Ok, Err}
 use Rattle.text_core.specs.declared.phys.Phys.{Phys}
 use Rattle.line_wave.specs.declared.Edge.{Edge}
 use Rattle.line_frames.specs.declared.Ending.{Ending}
@@ -29,7 +29,15 @@ use Rattle.audit_remarks.specs.Attempts.{after_attempt, failure_of, no_attempts,
 use Rattle.audit_remarks.specs.Counts.{no_counts, with_reading}
 use Rattle.audit_remarks.specs.Frames.{delivered_frame, sender}
 use Rattle.audit_remarks.specs.Free.{free_before, is_bad_start, no_previous, previous_with, too_soon}
-use Rattle.audit_core.specs.Lines.{answers_text, claims_text, counts_text, drive_text, failure_text, head_text, late_text, misfits_text, missing_text, moved_text, named_text, receivers_text, series_text, soon_text, timing_text, unfinished_text, widths_text, within_text}
+use Rattle.audit_core.specs.Lines.{answers_lines, claims_lines, counts_lines, late_lines, misfit_lines, named_lines, noted, timing_lines, widths_lines}
+use Rattle.audit_notes.specs.Lines.{AuditLine, has_remark, lines_text}
+use Rattle.audit_notes.specs.Lines.AuditLine.{Note, Reading}
+use Rattle.audit_notes.specs.declared.note.AuditNote.TheVariants as notes
+use Rattle.record_core.specs.declared.cell.Form.{Form}
+use Rattle.record_core.specs.declared.cell.Form.TheVariants.{Text}
+use Rattle.std.specs.Io.KnownBytes.{Appends}
+use Rattle.text_core.specs.Cut.{CutOff}
+use Rattle.text_core.specs.declared.sink.WriteFault.{WriteFault}
 use Rattle.audit_remarks.specs.Header.{head_read, unfinished}
 use Rattle.audit_remarks.specs.Messages.{missed_receivers, missing_operands}
 use Rattle.audit_remarks.specs.Places.{moved_from, no_places, with_places}
@@ -84,8 +92,8 @@ pub record IsHeard (h : Heard) : Type 0 where
 abbrev pub is_folded : BadStartSeries → Ending → Bool
 is_folded s ending = is_bad_start ending && nat_lt 0 s.count
 
-abbrev pub reading_misfits : BadStartSeries → Listed → List Low → List ℕ
-reading_misfits s x lows = if is_folded s x.reported.ending then [] else misfits_text x.reported.ending x.reported.bits 0 lows
+abbrev pub reading_misfits : BadStartSeries → Listed → List Low → List AuditLine
+reading_misfits s x lows = if is_folded s x.reported.ending then [] else misfit_lines x.reported.ending x.reported.bits 0 lows
 
 -- the low drive that may follow it
 abbrev pub drive_by : Ending → Option Low → Option ℕ
@@ -103,13 +111,13 @@ unless_driven (Some width) block = None
 abbrev pub unfinished_of : Listed → List Low → Option ℕ
 unfinished_of x lows = unless_driven (drive_within lows) (unfinished x.reported.ending x.reported.bits)
 
--- what there is to remark of what was before it, of its times and its blocks
-abbrev pub times_text : Tape → Listed → List ℕ
-times_text t x =
-    series_text (series_over t.series x.reported.ending) ++ answers_text x.begin (delivered_frame x) t.waiting
-    ++ soon_text (too_soon t.previous x (tries_again t.attempts x.reported.bits)) ++ reading_misfits t.series x (lows_of x t.place) ++ drive_text (drive_of x t.place)
-    ++ within_text (drive_within (lows_of x t.place)) ++ unfinished_text (unfinished_of x (lows_of x t.place))
-    ++ failure_text (failure_of t.attempts x.begin (free_before t.previous x.begin) x.reported.bits)
+-- what there is to remark of what was before it, of its times and its blocks, by its low stretches and the low drive that follows
+abbrev pub times_lines : Tape → Listed → List Low → Option ℕ → List AuditLine
+times_lines t x lows drive =
+    noted (option_map notes.BadStarts (series_over t.series x.reported.ending)) ++ answers_lines x.begin (delivered_frame x) t.waiting
+    ++ noted (option_map notes.Free (too_soon t.previous x (tries_again t.attempts x.reported.bits))) ++ reading_misfits t.series x lows ++ noted (option_map notes.LowDrive drive)
+    ++ noted (option_map notes.DriveWithin (drive_within lows)) ++ noted (option_map notes.Unfinished (unfinished_of x lows))
+    ++ noted (option_map notes.Attempt (failure_of t.attempts x.begin (free_before t.previous x.begin) x.reported.bits))
 
 -- what the standard calls what the line leaves as bytes
 abbrev pub named_in : Option (List ℕ) → Option (List ℕ)
@@ -120,17 +128,24 @@ abbrev pub named_of : Listed → Option (List ℕ)
 named_of x = named_in (frame_in (reading_as x))
 
 -- what was read, in words
-abbrev pub notes_text : Listed → List ℕ
-notes_text x = head_text (head_read x.reported.ending x.reported.bits) ++ named_text (named_of x)
+abbrev pub read_lines : Listed → List AuditLine
+read_lines x = noted (option_map notes.Read (head_read x.reported.ending x.reported.bits)) ++ named_lines (named_of x)
 
 -- of what it says
-abbrev pub frame_text : Tape → List ℕ → List ℕ
-frame_text t frame = moved_text (sender frame) (moved_from frame t.places) ++ receivers_text (missed_receivers frame) ++ missing_text (missing_operands frame)
+abbrev pub frame_lines : Tape → List ℕ → List AuditLine
+frame_lines t frame =
+    noted (option_map (notes.Moved (sender frame)) (moved_from frame t.places)) ++ noted (option_map notes.Receivers (missed_receivers frame)) ++ noted (option_map notes.Operands (missing_operands frame))
 
 -- what there is to remark, in order
+abbrev pub remarks_by : Bool → Tape → Listed → List Low → Option ℕ → List AuditLine
+remarks_by timing t x lows drive =
+    read_lines x ++ times_lines t x lows drive ++ frame_lines t (delivered_frame x) ++ timing_lines timing (with_slots x.reported.ending x.reported.bits 0 lows no_widths)
+
+abbrev pub remark_lines : Bool → Tape → Listed → List AuditLine
+remark_lines timing t x = remarks_by timing t x (lows_of x t.place) (drive_of x t.place)
+
 abbrev pub remarks_text : Bool → Tape → Listed → List ℕ
-remarks_text timing t x =
-    notes_text x ++ times_text t x ++ frame_text t (delivered_frame x) ++ timing_text timing (with_slots x.reported.ending x.reported.bits 0 (lows_of x t.place) no_widths)
+remarks_text timing t x = lines_text Text (remark_lines timing t x)
 
 -- what is kept of it, of these low stretches
 abbrev pub tape_by : List Low → Listed → Tape → Tape
@@ -168,8 +183,12 @@ reported_all timing t (x ∷ xs) = line_and_remarks timing t x ++ reported_all t
 
 -- what there is to say of all readings up to an end: the requests that were not answered, the addresses that nobody reported,
 -- the frames of each initiator, and the widths
+abbrev pub summary_lines : ℕ → Tape → List AuditLine
+summary_lines end t =
+    (Note notes.Summary ∷ []) ++ late_lines end t.waiting ++ claims_lines t.sources.reported.items t.sources.active.items ++ counts_lines 0 t.counts ++ widths_lines t.widths
+
 abbrev pub summary_text : ℕ → Tape → List ℕ
-summary_text end t = codes "  all readings\n" ++ late_text end t.waiting ++ claims_text t.sources.reported.items t.sources.active.items ++ counts_text 0 t.counts ++ widths_text t.widths
+summary_text end t = lines_text Text (summary_lines end t)
 
 -- the whole of a capture: these readings, one after another, and what there is to say of all
 abbrev pub audit_text_of : Bool → Captured → List Listed → List ℕ
@@ -178,3 +197,24 @@ audit_text_of timing c xs = reported_all timing (first_tape c.edges) xs ++ summa
 -- its readings by the standard's windows
 abbrev pub audit_text : Bool → Captured → List ℕ
 audit_text timing c = audit_text_of timing c (readings_of (line_of_edges c.edges) c.end)
+
+-- ---- the same as lines
+
+abbrev pub heard_lines : Bool → Tape → Listed → List AuditLine
+heard_lines timing t x = Reading x ∷ remark_lines timing (come_to x t) x
+
+abbrev pub heard_all : Bool → Tape → List Listed → List AuditLine
+heard_all timing t [] = []
+heard_all timing t (x ∷ xs) = heard_lines timing t x ++ heard_all timing (after x t) xs
+
+abbrev pub audit_lines : Bool → Captured → List Listed → List AuditLine
+audit_lines timing c xs = heard_all timing (first_tape c.edges) xs ++ summary_lines c.end (after_all (first_tape c.edges) xs)
+
+-- Their text in a form is written, whole or its front up to a fault; at the end it is known whether the standard has something otherwise.
+abbrev pub WritesAudit : Option (List ℕ) → Option (List ℕ) → Bool → Bool → Form → List AuditLine → Result Bool WriteFault → Type 0
+WritesAudit old new was is form lines (Ok remarked) = Appends old new (lines_text form lines) × (is ≡ was) × (remarked ≡ has_remark lines)
+WritesAudit old new was is form lines (Err fault) = CutOff old new (lines_text form lines) fault × (is ≡ true)
+
+-- Their text is that of the audit.
+abbrev pub AuditsAreLines : Type 0
+AuditsAreLines = (timing : Bool) (c : Captured) (xs : List Listed) → lines_text Text (audit_lines timing c xs) ≡ audit_text_of timing c xs

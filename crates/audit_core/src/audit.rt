@@ -1,14 +1,15 @@
 //! The audit of a capture.
 ghost use Rattle.line_reading.specs.Windows.{AreWindows};
 ghost use Rattle.capture_monitor.specs.Joined.{captured_by};
-ghost use Rattle.audit_core.specs.Audit.{audit_text, audit_text_of};
-ghost use Rattle.text_core.specs.Adds.{Adds};
+ghost use Rattle.audit_core.specs.Audit.{WritesAudit, audit_lines, audit_text, audit_text_of};
 ghost use Rattle.text_core.specs.Cut.{WritesText};
 
 use crate::whole::WholeAudit;
+use audit_notes::{LineHearer, LineWriter, Strict};
 use capture_core::Capture;
 use capture_monitor::Monitor;
 use line_reading::{STANDARD, Windows};
+use record_core::Form;
 use text_core::{Counted, Sink, WriteFault};
 
 /// What an audit writes.
@@ -18,15 +19,16 @@ pub struct AuditOptions {
     pub timing: bool,
 }
 
-// Adds what there is to say of each reading of a capture, as a monitor reads it by these windows, and then of all of them.
-fn add_audit<S: Sink>(
-    out: &mut Counted<'_, S>,
+/// Has the readings of a capture heard, as a monitor reads them by these windows, and after each what a person who knows the
+/// standard would remark: what `audit_capture` writes.
+pub fn hear_audit<H: LineHearer>(
     capture: &Capture,
     windows: Windows,
     options: AuditOptions,
+    out: &mut H,
 )
     requires { AreWindows windows }
-    ensures { Adds out.old out.new (audit_text_of options.timing capture.now (captured_by windows capture.now)) }
+    ensures { H.hears out.old (audit_lines options.timing capture.now (captured_by windows capture.now)) out.new }
 {
     let edges = capture.edges();
     let mut monitor = Monitor::with_windows(windows);
@@ -38,6 +40,41 @@ fn add_audit<S: Sink>(
     let reading = monitor.finish(capture.end());
     auditor.hear(out, &reading, options.timing);
     auditor.summarize(out, capture.end());
+}
+
+/// Writes the audit of a capture as a monitor reads it by these windows, its lines or their objects. Returns whether the standard has
+/// something otherwise.
+///
+/// # Errors
+///
+/// The sink takes no more: then the front of that text was written, as long as the fault reports.
+pub fn write_audit<S: Sink>(
+    capture: &Capture,
+    windows: Windows,
+    form: Form,
+    options: AuditOptions,
+    out: &mut S,
+) -> Result<bool, WriteFault>
+    requires { AreWindows windows }
+    ensures { WritesAudit (S.contents out.old) (S.contents out.new) (S.is_stuck out.old) (S.is_stuck out.new) form (audit_lines options.timing capture.now (captured_by windows capture.now)) result }
+{
+    let mut audit = Strict {
+        hearer: LineWriter {
+            form,
+            out: Counted::new(out),
+        },
+        remarked: false,
+    };
+    hear_audit(capture, windows, options, &mut audit);
+    let remarked = audit.remarked;
+    let text = audit.hearer.out;
+    let written = text.written();
+    // No effect at run time. The proof reads what `out` holds from the sink that comes back.
+    let _below = text.into_sink();
+    match written {
+        Ok(_) => Ok(remarked),
+        Err(fault) => Err(fault),
+    }
 }
 
 /// Writes the readings of a capture, a line each, and below each what a person who knows the standard would remark, in
@@ -76,12 +113,7 @@ pub fn audit_capture_by<S: Sink>(
     requires { AreWindows windows }
     ensures { WritesText (S.contents out.old) (S.contents out.new) (S.is_stuck out.old) (S.is_stuck out.new) (audit_text_of options.timing capture.now (captured_by windows capture.now)) result }
 {
-    let mut audit = Counted::new(out);
-    add_audit(&mut audit, capture, windows, options);
-    let written = audit.written();
-    // No effect at run time. The proof reads what `out` holds from the sink that comes back.
-    let _below = audit.into_sink();
-    match written {
+    match write_audit(capture, windows, Form::Text, options, out) {
         Ok(_) => Ok(()),
         Err(fault) => Err(fault),
     }

@@ -2,17 +2,20 @@
 ghost use Rattle.std.specs.Prelude.{◌≡◌, []};
 ghost use Rattle.std.specs.Option.{option_copied};
 ghost use Rattle.line_reading.specs.Reports.{listed_as};
-ghost use Rattle.audit_core.specs.Audit.{IsHeard, first_tape, frame_text, is_folded, named_of, notes_text, reading_misfits, remarks_text, summary_text, tape_after, tape_at, times_text};
-ghost use Rattle.audit_core.specs.Lines.{timing_text};
-ghost use Rattle.text_core.specs.Adds.{Adds};
+ghost use Rattle.audit_core.specs.Audit.{IsHeard, drive_of, first_tape, frame_lines, is_folded, named_of, read_lines, reading_misfits, remark_lines, summary_lines, tape_after, tape_at, times_lines};
+ghost use Rattle.audit_core.specs.Lines.{timing_lines};
 ghost use Rattle.audit_widths.specs.Spreads.{no_widths, with_slots};
 
 use crate::heard::{Heard, lows_of};
 use crate::lines::{
-    add_answers, add_claims, add_counts, add_drive, add_failure, add_head, add_late, add_misfits,
-    add_missing, add_moved, add_named, add_receivers, add_series, add_soon, add_unfinished,
-    add_widths, add_within,
+    hear_answers, hear_claims, hear_counts, hear_late, hear_misfits, hear_named, hear_noted,
+    hear_widths,
 };
+use crate::notes::{
+    attempt_note, block_note, drive_note, head_note, moved_note, operands_note, receivers_note,
+    series_note, soon_note, within_note,
+};
+use audit_notes::{AuditNote, LineHearer};
 use audit_remarks::{
     Attempts, BadStartSeries, Counts, Places, Previous, Sources, Waiting, after_frame,
     count_reading, head_read, is_bad_start, missed_receivers, missing_operands, moved_from,
@@ -22,7 +25,6 @@ use audit_widths::{Widths, drive_within};
 use line_frames::{Ending, Reading};
 use line_wave::Edge;
 use message_hex::remark;
-use text_core::{Counted, Piece, Sink};
 
 /// What is kept of the readings so far. It is told the edges of each, and keeps none.
 #[derive(Drop)]
@@ -48,11 +50,11 @@ fn named_of(reading: &Reading) -> Option<&'static str>
 }
 
 // What was read, in words.
-fn add_notes<S: Sink>(out: &mut Counted<'_, S>, reading: &Reading)
-    ensures { Adds out.old out.new (notes_text (listed_as reading.now)) }
+fn hear_read<H: LineHearer>(out: &mut H, reading: &Reading)
+    ensures { H.hears out.old (read_lines (listed_as reading.now)) out.new }
 {
-    add_head(out, head_read(reading.ending, &reading.bits));
-    add_named(out, named_of(reading));
+    hear_noted(out, head_note(head_read(reading.ending, &reading.bits)));
+    hear_named(out, named_of(reading));
 }
 
 // Whether a reading's widths are left out: it is a bad start after another one.
@@ -62,26 +64,24 @@ fn is_folded(series: BadStartSeries, ending: Ending) -> bool
     is_bad_start(ending) && series.count > 0
 }
 
-#[tactic(auto, using(text_core::proofs::Adding::nothing))]
-fn add_reading_misfits<S: Sink>(out: &mut Counted<'_, S>, series: BadStartSeries, heard: &Heard)
-    ensures { Adds out.old out.new (reading_misfits series (listed_as heard.now.reading.now) heard.now.lows.now.items) }
+fn hear_reading_misfits<H: LineHearer>(out: &mut H, series: BadStartSeries, heard: &Heard)
+    ensures { H.hears out.old (reading_misfits series (listed_as heard.now.reading.now) heard.now.lows.now.items) out.new }
 {
     let reading = heard.reading;
     if is_folded(series, reading.ending) {
         return;
     }
-    add_misfits(out, reading.ending, &reading.bits, 0, heard.lows.as_slice());
+    hear_misfits(out, reading.ending, &reading.bits, 0, heard.lows.as_slice());
 }
 
 // The widths of a reading, where they are asked for.
-#[tactic(auto, using(text_core::proofs::Adding::nothing))]
-fn add_reading_widths<S: Sink>(out: &mut Counted<'_, S>, timing: bool, heard: &Heard)
-    ensures { Adds out.old out.new (timing_text timing (with_slots heard.now.reading.now.ending heard.now.reading.now.bits.items 0 heard.now.lows.now.items no_widths)) }
+fn hear_reading_widths<H: LineHearer>(out: &mut H, timing: bool, heard: &Heard)
+    ensures { H.hears out.old (timing_lines timing (with_slots heard.now.reading.now.ending heard.now.reading.now.bits.items 0 heard.now.lows.now.items no_widths)) out.new }
 {
     if !timing {
         return;
     }
-    add_widths(out, heard.widths());
+    hear_widths(out, heard.widths());
 }
 
 impl Auditor {
@@ -102,44 +102,48 @@ impl Auditor {
     }
 
     // What there is to remark of what was before a reading, of its times and its blocks.
-    fn add_times<S: Sink>(&self, out: &mut Counted<'_, S>, heard: &Heard)
+    fn hear_times<H: LineHearer>(&self, out: &mut H, heard: &Heard)
         requires { IsHeard heard.now }
-        ensures { Adds out.old out.new (times_text (tape_at heard.now.edges.now self.now) (listed_as heard.now.reading.now)) }
+        ensures { H.hears out.old (times_lines (tape_at heard.now.edges.now self.now) (listed_as heard.now.reading.now) heard.now.lows.now.items (drive_of (listed_as heard.now.reading.now) heard.now.edges.now)) out.new }
     {
         let reading = heard.reading;
         let free = self.previous.free_before(reading.begin);
         let again = self.attempts.tries_again(&reading.bits);
-        add_series(out, self.series.over(reading.ending));
-        add_answers(out, reading.begin, &heard.frame, &self.waiting);
-        add_soon(out, self.previous.too_soon(reading, again));
-        add_reading_misfits(out, self.series, heard);
-        add_drive(out, heard.drive());
-        add_within(out, drive_within(heard.lows.as_slice()));
-        add_unfinished(out, heard.unfinished());
-        add_failure(
-            out,
-            self.attempts.failure_of(reading.begin, free, &reading.bits),
-        );
+        let series = self.series.over(reading.ending);
+        let soon = self.previous.too_soon(reading, again);
+        let within = drive_within(heard.lows.as_slice());
+        let failure = self.attempts.failure_of(reading.begin, free, &reading.bits);
+        hear_noted(out, series_note(series));
+        hear_answers(out, reading.begin, &heard.frame, &self.waiting);
+        hear_noted(out, soon_note(soon));
+        hear_reading_misfits(out, self.series, heard);
+        hear_noted(out, drive_note(heard.drive()));
+        hear_noted(out, within_note(within));
+        hear_noted(out, block_note(heard.unfinished()));
+        hear_noted(out, attempt_note(failure));
     }
 
     // What there is to remark of what a frame says.
-    fn add_frame<S: Sink>(&self, out: &mut Counted<'_, S>, frame: &[u8])
-        ensures { Adds out.old out.new (frame_text (tape_at [] self.now) frame.now) }
+    fn hear_frame<H: LineHearer>(&self, out: &mut H, frame: &[u8])
+        ensures { H.hears out.old (frame_lines (tape_at [] self.now) frame.now) out.new }
     {
-        add_moved(out, sender(frame), moved_from(frame, &self.places));
-        add_receivers(out, missed_receivers(frame));
-        add_missing(out, missing_operands(frame));
+        hear_noted(
+            out,
+            moved_note(sender(frame), moved_from(frame, &self.places)),
+        );
+        hear_noted(out, receivers_note(missed_receivers(frame)));
+        hear_noted(out, operands_note(missing_operands(frame)));
     }
 
     // What there is to remark of a reading.
-    fn add_remarks<S: Sink>(&self, out: &mut Counted<'_, S>, heard: &Heard, timing: bool)
+    fn hear_remarks<H: LineHearer>(&self, out: &mut H, heard: &Heard, timing: bool)
         requires { IsHeard heard.now }
-        ensures { Adds out.old out.new (remarks_text timing (tape_at heard.now.edges.now self.now) (listed_as heard.now.reading.now)) }
+        ensures { H.hears out.old (remark_lines timing (tape_at heard.now.edges.now self.now) (listed_as heard.now.reading.now)) out.new }
     {
-        add_notes(out, heard.reading);
-        self.add_times(out, heard);
-        self.add_frame(out, &heard.frame);
-        add_reading_widths(out, timing, heard);
+        hear_read(out, heard.reading);
+        self.hear_times(out, heard);
+        self.hear_frame(out, &heard.frame);
+        hear_reading_widths(out, timing, heard);
     }
 
     // A reading is kept.
@@ -160,31 +164,31 @@ impl Auditor {
         self.widths.add(reading.ending, &reading.bits, 0, lows);
     }
 
-    /// Adds what there is to remark of a reading, and keeps it. `edges` are those of the capture from its fall on.
-    pub fn remark<S: Sink>(
+    /// Has what there is to remark of a reading heard, and keeps it. `edges` are those of the capture from its fall on.
+    pub fn remark<H: LineHearer>(
         &mut self,
-        out: &mut Counted<'_, S>,
+        out: &mut H,
         reading: &Reading,
         edges: &[Edge],
         timing: bool,
     )
         ensures kept { tape_at edges.now self.new ≡ tape_after (listed_as reading.now) (tape_at edges.now self.old) }
-        ensures written { Adds out.old out.new (remarks_text timing (tape_at edges.now self.old) (listed_as reading.now)) }
+        ensures written { H.hears out.old (remark_lines timing (tape_at edges.now self.old) (listed_as reading.now)) out.new }
     {
         let lows = lows_of(reading, edges);
         let heard = Heard::new(reading, edges, &lows);
-        self.add_remarks(out, &heard, timing);
+        self.hear_remarks(out, &heard, timing);
         self.note(&heard);
     }
 
-    /// Adds what there is to say of all readings up to an end.
-    pub fn summarize<S: Sink>(&self, out: &mut Counted<'_, S>, end: u64)
-        ensures { Adds out.old out.new (summary_text end (tape_at [] self.now)) }
+    /// Has what there is to say of all readings up to an end heard.
+    pub fn summarize<H: LineHearer>(&self, out: &mut H, end: u64)
+        ensures { H.hears out.old (summary_lines end (tape_at [] self.now)) out.new }
     {
-        out.add_line(&[Piece::Text("  all readings\n")]);
-        add_late(out, end, &self.waiting);
-        add_claims(out, &self.sources, self.sources.active());
-        add_counts(out, 0, &self.counts);
-        add_widths(out, self.widths);
+        out.note(AuditNote::Summary);
+        hear_late(out, end, &self.waiting);
+        hear_claims(out, &self.sources, self.sources.active());
+        hear_counts(out, 0, &self.counts);
+        hear_widths(out, self.widths);
     }
 }

@@ -2,15 +2,13 @@
 ghost use Rattle.std.specs.Prelude.{◌≡◌, option_map};
 ghost use Rattle.std.specs.Option.{option_to_list};
 ghost use Rattle.line_reading.specs.Reports.{listed_as};
-ghost use Rattle.audit_core.specs.Audit.{after, after_all, come_to, first_tape, line_and_remarks, reported_all, summary_text, tape_of};
-ghost use Rattle.text_core.specs.Adds.{Adds};
+ghost use Rattle.audit_core.specs.Audit.{after, after_all, come_to, first_tape, heard_all, heard_lines, summary_lines, tape_of};
 
 use crate::auditor::Auditor;
+use audit_notes::LineHearer;
 use audit_widths::Cursor;
 use line_frames::Reading;
 use line_wave::Edge;
-use message_text::add_reading;
-use text_core::{Counted, Sink};
 
 /// An auditor of a capture, and its place there.
 #[derive(Drop)]
@@ -38,27 +36,26 @@ impl<'a> WholeAudit<'a> {
         self.cursor.go_to(reading.begin);
     }
 
-    // Adds a reading's line, and what there is to remark.
-    fn report<S: Sink>(&mut self, out: &mut Counted<'_, S>, reading: &Reading, timing: bool)
+    // Has a reading heard, and what there is to remark.
+    fn report<H: LineHearer>(&mut self, out: &mut H, reading: &Reading, timing: bool)
         ensures kept { tape_of self.new ≡ after (listed_as reading.now) (tape_of self.old) }
-        ensures written { Adds out.old out.new (line_and_remarks timing (tape_of self.old) (listed_as reading.now)) }
+        ensures written { H.hears out.old (heard_lines timing (tape_of self.old) (listed_as reading.now)) out.new }
     {
         self.come_to(reading);
-        add_reading(out, reading);
+        out.reading(reading);
         self.auditor
             .remark(out, reading, self.cursor.edges(), timing);
     }
 
     /// The same of what a monitor reported.
-    #[tactic(auto, using(text_core::proofs::Adding::nothing))]
-    pub(crate) fn hear<S: Sink>(
+    pub(crate) fn hear<H: LineHearer>(
         &mut self,
-        out: &mut Counted<'_, S>,
+        out: &mut H,
         reading: &Option<Reading>,
         timing: bool,
     )
         ensures kept { tape_of self.new ≡ after_all (tape_of self.old) (option_to_list (option_map listed_as reading.now)) }
-        ensures written { Adds out.old out.new (reported_all timing (tape_of self.old) (option_to_list (option_map listed_as reading.now))) }
+        ensures written { H.hears out.old (heard_all timing (tape_of self.old) (option_to_list (option_map listed_as reading.now))) out.new }
     {
         let Some(reading) = reading else {
             return;
@@ -66,9 +63,9 @@ impl<'a> WholeAudit<'a> {
         self.report(out, reading, timing);
     }
 
-    /// Adds what there is to say of all readings up to an end.
-    pub(crate) fn summarize<S: Sink>(&self, out: &mut Counted<'_, S>, end: u64)
-        ensures { Adds out.old out.new (summary_text end (tape_of self.now)) }
+    /// Has what there is to say of all readings up to an end heard.
+    pub(crate) fn summarize<H: LineHearer>(&self, out: &mut H, end: u64)
+        ensures { H.hears out.old (summary_lines end (tape_of self.now)) out.new }
     {
         self.auditor.summarize(out, end);
     }

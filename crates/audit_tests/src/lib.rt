@@ -10,4 +10,6 @@ mod kinds;
 #[cfg(test)]
 mod margins;
 #[cfg(test)]
+mod notes;
+#[cfg(test)]
 mod objects;

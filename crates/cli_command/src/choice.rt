@@ -1,12 +1,14 @@
 //! The command line.
-ghost use Rattle.std.specs.Prelude.{◌≡◌, MatchResult, None, Some, map, string_bytes};
-ghost use Rattle.cli_words.specs.Line.{asked_by};
+ghost use Rattle.std.specs.Prelude.{◌≡◌, true, IfOk, MatchResult, None, Some, length, map, string_bytes};
+ghost use Rattle.cli_words.specs.Operands.{asked_on, takes};
 
 use crate::values::value_hint;
 use crate::{frames_help, help};
 use clap::error::ErrorKind;
 use clap::{Arg, ArgAction, Command, Error};
-use cli_words::{Asked, Subcommand, asked_by, subcommand_of, value_at_fault};
+use cli_words::{
+    Asked, CommandLine, Subcommand, asked_by, asked_on, subcommand_of, value_at_fault,
+};
 use explain_lists::{frame_forms, run_words};
 use std::alloc::{AllocError, Global};
 
@@ -59,6 +61,16 @@ fn with_values<'a>(
         command = command.arg(flag)?;
     }
     Ok(command)
+}
+
+// A file, or standard input.
+fn operand<'a>(alloc: Global, name: &'a str, value: &'a str, help: &'a str) -> Arg<'a> {
+    Arg::new(alloc, name).value_name(value).help(help)
+}
+
+// The file that a command reads.
+fn one_file<'a>(alloc: Global) -> Arg<'a> {
+    operand(alloc, "file", "FILE", help::FILE)
 }
 
 // Whether help is asked for.
@@ -123,7 +135,7 @@ fn add_run<'a>(
     let run = plain_command(alloc, "run", help::RUN_ABOUT, run_help);
     let run = with_flags(alloc, run, help::RUN_FLAGS)?;
     let run = with_values(alloc, run, help::RUN_VALUES)?;
-    program.subcommand(run)
+    program.subcommand(run.arg(one_file(alloc))?)
 }
 
 // Adds the command that tests a network or a capture.
@@ -131,12 +143,14 @@ fn add_check<'a>(alloc: Global, program: Command<'a>) -> Result<Command<'a>, All
     let check = plain_command(alloc, "check", help::CHECK_ABOUT, help::CHECK_HELP);
     let check = with_flags(alloc, check, help::CHECK_FLAGS)?;
     let check = with_values(alloc, check, help::CHECK_VALUES)?;
-    program.subcommand(check)
+    let files = operand(alloc, "file", "FILE", help::FILES).action(ArgAction::Append);
+    program.subcommand(check.arg(files.num_args(1..))?)
 }
 
 // Adds the command that steps through a run.
 fn add_step<'a>(alloc: Global, program: Command<'a>) -> Result<Command<'a>, AllocError> {
-    program.subcommand(plain_command(alloc, "step", help::STEP_ABOUT, help::STEP_HELP))
+    let step = plain_command(alloc, "step", help::STEP_ABOUT, help::STEP_HELP);
+    program.subcommand(step.arg(one_file(alloc))?)
 }
 
 // Adds the command that answers a script line by line.
@@ -152,20 +166,22 @@ fn add_asm<'a>(
     program: Command<'a>,
     asm_help: &'a str,
 ) -> Result<Command<'a>, AllocError> {
-    program.subcommand(plain_command(alloc, "asm", frames_help::ASM_ABOUT, asm_help))
+    let asm = plain_command(alloc, "asm", frames_help::ASM_ABOUT, asm_help);
+    program.subcommand(asm.arg(one_file(alloc))?)
 }
 
 // Adds the command that reads frames in hex.
 fn add_dis<'a>(alloc: Global, program: Command<'a>) -> Result<Command<'a>, AllocError> {
     let dis = plain_command(alloc, "dis", frames_help::DIS_ABOUT, frames_help::DIS_HELP);
     let dis = with_flags(alloc, dis, frames_help::DIS_FLAGS)?;
-    program.subcommand(dis)
+    program.subcommand(dis.arg(one_file(alloc))?)
 }
 
 // Adds the command that lays frames.
 fn add_lay<'a>(alloc: Global, program: Command<'a>) -> Result<Command<'a>, AllocError> {
     let lay = plain_command(alloc, "lay", frames_help::LAY_ABOUT, frames_help::LAY_HELP);
-    program.subcommand(lay)
+    let lay = with_flags(alloc, lay, frames_help::LAY_FLAGS)?;
+    program.subcommand(lay.arg(one_file(alloc))?)
 }
 
 // Adds the command that reads captures.
@@ -173,7 +189,7 @@ fn add_mon<'a>(alloc: Global, program: Command<'a>) -> Result<Command<'a>, Alloc
     let mon = plain_command(alloc, "mon", help::MON_ABOUT, help::MON_HELP);
     let mon = with_flags(alloc, mon, help::MON_FLAGS)?;
     let mon = with_values(alloc, mon, help::MON_VALUES)?;
-    program.subcommand(mon)
+    program.subcommand(mon.arg(one_file(alloc))?)
 }
 
 // Adds the command that reads EDIDs.
@@ -181,7 +197,9 @@ fn add_edid<'a>(alloc: Global, program: Command<'a>) -> Result<Command<'a>, Allo
     let edid = plain_command(alloc, "edid", help::EDID_ABOUT, help::EDID_HELP);
     let edid = with_flags(alloc, edid, help::EDID_FLAGS)?;
     let edid = with_values(alloc, edid, help::EDID_VALUES)?;
-    program.subcommand(edid)
+    let edid = edid.arg(one_file(alloc))?;
+    let receiver = operand(alloc, "receiver", "RECEIVER", help::RECEIVER);
+    program.subcommand(edid.arg(receiver)?)
 }
 
 // The program with its commands, in the order in which help lists them.
@@ -246,65 +264,22 @@ fn quoted_after<'a>(error: &'a str, before: &str) -> Option<&'a str> {
     Some(word)
 }
 
-// A word where no more words are taken: a file's name, and no flag.
-fn refused_word(error: &str) -> Option<&str> {
-    let word = quoted_after(error, "error: unexpected argument '")?;
-    if word.starts_with("-") {
-        None
+// Whether a word in the place of a subcommand is a file's name, by the error.
+fn names_file(error: &str) -> bool {
+    match quoted_after(error, "error: unrecognized subcommand '") {
+        Some(word) => word.contains(".") || word.contains("/"),
+        None => false,
+    }
+}
+
+// What is often meant by words that are refused so: a file's name without a subcommand, and `help`.
+fn meant(error: &str) -> &'static str {
+    if names_file(error) {
+        help::FILE_ALONE
+    } else if error.starts_with("error: unrecognized subcommand 'help'") {
+        help::HELP_WORD
     } else {
-        Some(word)
-    }
-}
-
-// A word in the place of a subcommand that is a file's name.
-fn refused_file(error: &str) -> Option<&str> {
-    let word = quoted_after(error, "error: unrecognized subcommand '")?;
-    if word.contains(".") || word.contains("/") {
-        Some(word)
-    } else {
-        None
-    }
-}
-
-// A file's name among the words of a command line, by the error.
-fn file_in(error: &str) -> Option<&str> {
-    match refused_word(error) {
-        Some(word) => Some(word),
-        None => refused_file(error),
-    }
-}
-
-// Adds the words of a command line after the program's name, each after a space, but for a file's name and what follows it up to
-// the next flag.
-fn add_words_but(words: &[String], file: &str, text: &mut String) -> Result<(), AllocError> {
-    let mut is_left_out = false;
-    for word in words.iter().skip(1) {
-        let follows = is_left_out && !word.as_str().starts_with("-");
-        is_left_out = follows || word.as_str() == file;
-        if !is_left_out {
-            text.push_str(" ")?;
-            text.push_str(word.as_str())?;
-        }
-    }
-    Ok(())
-}
-
-// How a command line is written that has a file's name among its words.
-fn with_input(alloc: Global, words: &[String], file: &str) -> Result<String, AllocError> {
-    let mut text = String::from_str(alloc, help::FILE_NAME)?;
-    add_words_but(words, file, &mut text)?;
-    text.push_str(help::AFTER_WORDS)?;
-    Ok(text)
-}
-
-// What is often meant by words that are refused so: a file's name, of which the input is, and `help`.
-fn meant(alloc: Global, error: &str, words: &[String]) -> Result<String, AllocError> {
-    match file_in(error) {
-        Some(file) => with_input(alloc, words, file),
-        None if error.starts_with("error: unrecognized subcommand 'help'") => {
-            String::from_str(alloc, help::HELP_WORD)
-        }
-        None => Ok(String::new(alloc)),
+        ""
     }
 }
 
@@ -317,13 +292,18 @@ fn value_named(alloc: Global, words: &[String]) -> Result<String, AllocError> {
 }
 
 // What is said of a command line that is not to be done.
-fn said(alloc: Global, error: &Error, words: &[String]) -> Result<Refused, AllocError> {
+fn said(
+    alloc: Global,
+    error: &Error,
+    words: &[String],
+    line: &CommandLine,
+) -> Result<Refused, AllocError> {
     let mut text = format!(in alloc; "{error}")?;
     if error.use_stderr() {
-        let value = value_named(alloc, words)?;
+        let value = value_named(alloc, &line.words)?;
         text.push_str(value.as_str())?;
-        let meant = meant(alloc, text.as_str(), words)?;
-        text.push_str(meant.as_str())?;
+        let meant = meant(text.as_str());
+        text.push_str(meant)?;
         text.push_str(explanation(words))?;
         return Ok(Refused::Words(text));
     }
@@ -331,11 +311,11 @@ fn said(alloc: Global, error: &Error, words: &[String]) -> Result<Refused, Alloc
 }
 
 // What becomes of a command line that is not to be done.
-fn refusal(alloc: Global, error: &Error, words: &[String]) -> Refused {
+fn refusal(alloc: Global, error: &Error, words: &[String], line: &CommandLine) -> Refused {
     if error.kind() == ErrorKind::OutOfMemory {
         return Refused::Memory;
     }
-    match said(alloc, error, words) {
+    match said(alloc, error, words, line) {
         Ok(refused) => refused,
         Err(AllocError) => Refused::Memory,
     }
@@ -365,38 +345,49 @@ fn rules(words: &[String]) -> &'static str {
     ""
 }
 
-// What is said where the table takes words that ask for nothing: what goes with what, and a value that its flag does not take.
-fn rules_said(alloc: Global, words: &[String]) -> Result<String, AllocError> {
-    let rules = rules(words);
-    let value = value_named(alloc, words)?;
-    let explanation = explanation(words);
+// Why words that the table takes ask for nothing: their flags and values, or the files that they are asked of.
+fn why_nothing(line: &CommandLine) -> &'static str {
+    match asked_by(&line.words) {
+        Some(_) => help::FILES_DIFFER,
+        None => help::FLAGS_DIFFER,
+    }
+}
+
+// What is said of such words: what goes with what, and a value that its flag does not take.
+fn rules_said(alloc: Global, line: &CommandLine) -> Result<String, AllocError> {
+    let why = why_nothing(line);
+    let rules = rules(&line.words);
+    let value = value_named(alloc, &line.words)?;
+    let explanation = explanation(&line.words);
     format!(in alloc;
-        "error: a value is none of its flag, or flags do not go together\n{rules}\nFor more information, try '--help'.\n{value}{explanation}"
+        "error: {why}\n{rules}\nFor more information, try '--help'.\n{value}{explanation}"
     )
 }
 
 // What becomes of such words.
-fn meaningless(alloc: Global, words: &[String]) -> Refused {
-    match rules_said(alloc, words) {
+fn meaningless(alloc: Global, line: &CommandLine) -> Refused {
+    match rules_said(alloc, line) {
         Ok(text) => Refused::Words(text),
         Err(AllocError) => Refused::Memory,
     }
 }
 
-/// Reads a command line: the program's name, a subcommand, its flags. The name alone asks for the trace of a run.
+/// Reads a command line: the program's name, a subcommand, its flags, the files that it reads. The name alone asks for the trace of
+/// a run. `line` is that of the words.
 ///
 /// # Errors
 ///
-/// A line that `asked_by` does not read is put to the table of commands and flags, which says why it is refused, or shows a help.
+/// A line that `asked_on` does not read is put to the table of commands and flags, which says why it is refused, or shows a help.
 // The table takes as long to build as an EDID to read, so where nothing of it is needed it is left alone.
-pub fn choose(alloc: Global, words: &[String]) -> Result<Asked, Refused>
-    ensures { MatchResult result (λ asked. asked_by (map string_bytes words.now) ≡ Some asked) (λ _. asked_by (map string_bytes words.now) ≡ None) }
+pub fn choose(alloc: Global, words: &[String], line: &CommandLine) -> Result<Asked, Refused>
+    ensures asked { MatchResult result (λ asked. asked_on (map string_bytes line.now.words.items) (map string_bytes line.now.operands.items) ≡ Some asked) (λ _. asked_on (map string_bytes line.now.words.items) (map string_bytes line.now.operands.items) ≡ None) }
+    ensures taken { IfOk result (λ asked. takes asked.choice (length (map string_bytes line.now.operands.items)) ≡ true) }
 {
-    if let Some(asked) = asked_by(words) {
+    if let Some(asked) = asked_on(line) {
         return Ok(asked);
     }
     match put_with_help(alloc, words) {
-        Ok(()) => Err(meaningless(alloc, words)),
-        Err(error) => Err(refusal(alloc, &error, words)),
+        Ok(()) => Err(meaningless(alloc, line)),
+        Err(error) => Err(refusal(alloc, &error, words, line)),
     }
 }

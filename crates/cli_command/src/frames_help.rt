@@ -37,10 +37,14 @@ brackets may be left out:";
 
 pub const DIS_ABOUT: &str = "Writes CEC frames in hex as texts";
 
-pub const DIS_FLAGS: &[(&str, &str)] = &[(
-    "meaning",
-    "Prints below each frame what it means, in plain words",
-)];
+/// The flags of `dis`, each with its help.
+pub const DIS_FLAGS: &[(&str, &str)] = &[
+    (
+        "meaning",
+        "Prints below each frame what it means, in plain words",
+    ),
+    ("json", "Prints each line as an object of JSON"),
+];
 
 pub const DIS_HELP: &str = "\
 The input has the bytes of a frame a line, in hex: header, opcode and operands. Lines that are empty or
@@ -62,6 +66,9 @@ words: who asks, tells or sends what to whom, and what its operands say.
   40 41 24         4>0 play forward
                      Playback Device 1 asks TV to play: forward
 
+With --json each line of the output is an object of JSON, whose first field is that line; then come its
+type, frame or meaning, and what it says: of a frame its addresses, opcode, operands and bytes.
+
 The fault is `line N: CAUSE` with the first line that has no frame; nothing is written then. CAUSE is
   digit      something else than hex digits and what may stand between bytes
   half       a hex digit alone
@@ -71,6 +78,9 @@ Exit status: 0 done; 1 input refused; 2 command line refused; 3 a read or write 
 past 1048576 bytes; 4 no memory.";
 
 pub const LAY_ABOUT: &str = "Writes CEC frames, whole or with a fault, as pulls of a script";
+
+/// The flags of `lay`, each with its help.
+pub const LAY_FLAGS: &[(&str, &str)] = &[("json", "Prints each pull as an object of JSON")];
 
 pub const LAY_HELP: &str = "\
 The input has a frame a line: T, the microsecond at which its start bit falls, then a fault or none, and
@@ -97,6 +107,9 @@ An example, and what it gives:
   1000000 last 2 4>0 image-view-on     pull 1000000 3700
                                        pull 1004500 1500
                                        pull 1006900 600
+
+With --json each line of the output is an object of JSON, whose first field is that line; then come its
+type, pull, and the pull's instant and width.
 
 Between a room and an end that gives a run:
   (cat room; echo script; hdminet lay < faults; echo end 2000000) | hdminet run

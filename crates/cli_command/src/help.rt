@@ -6,15 +6,28 @@ pub const ABOUT: &str =
 pub const EXPLAIN_FLAG: &str =
     "After a fault, shows its line and word, and what would be right; after a run, its counts";
 
+/// The file that a subcommand reads.
+pub const FILE: &str = "What is read; standard input where it is left out, or `-`";
+
+/// Those that `check` reads.
+pub const FILES: &str =
+    "What is tested, of several each by itself; standard input where it is left out, or `-`";
+
+/// The second that `edid --merge` reads.
+pub const RECEIVER: &str = "With --merge, the receiver's EDID, where FILE is the display's alone";
+
 /// What follows a refused command line that has `--explain`.
 pub const EXPLAINED: &str =
-    "  the subcommands are run, check, step, live, asm, dis, lay, mon and edid; each reads standard input, as `hdminet run < FILE`\n";
+    "  the subcommands are run, check, step, live, asm, dis, lay, mon and edid; each reads standard input, and all but live a file too, as `hdminet run FILE`\n";
 
-/// What follows a command line that is refused for a word that is no flag, up to the words that are left.
-pub const FILE_NAME: &str = "  a file is read as standard input, after `<`: `hdminet";
+/// What follows a command line that is refused for a file's name in the place of a subcommand.
+pub const FILE_ALONE: &str = "  a file stands after a subcommand: `hdminet run FILE`\n";
 
-/// What follows these words.
-pub const AFTER_WORDS: &str = " < FILE`\n";
+/// Why words ask for nothing, that are known each by itself.
+pub const FLAGS_DIFFER: &str = "a value is none of its flag, or flags do not go together";
+
+/// The same of words that would ask for something with other files.
+pub const FILES_DIFFER: &str = "so many files do not go with these flags, or `-` is one of several";
 
 /// What follows a command line that is refused for the word `help`.
 pub const HELP_WORD: &str =
@@ -23,11 +36,12 @@ pub const HELP_WORD: &str =
 pub const OVERVIEW: &str = "\
 With --explain a fault is followed by the line of the input, the word at fault, and what would be right.
 
-Each subcommand reads standard input and writes standard output. `hdminet SUBCOMMAND --help` explains
-its input. With no subcommand it is `run`.
+Each subcommand reads the file that is named after it, or standard input where none is, or `-`, and writes
+standard output; `live` reads standard input alone. After `--` each word is a file. `check` takes several
+files, `edid --merge` two. `hdminet SUBCOMMAND --help` explains the input. With no subcommand it is `run`.
 
 Examples, of which the folder examples/ has the inputs and outputs:
-  ./hdminet run < examples/first-path.net
+  ./hdminet run examples/first-path.net
       a network of a television and a player, whose play key is pressed:
       device tv tv 4
       device p1 player 0
@@ -36,32 +50,32 @@ Examples, of which the folder examples/ has the inputs and outputs:
       at 1000000 press p1 play
       end 1500000
       (further ones are four-players.net and ports.net)
-  ./hdminet run --edges < examples/first-path.net
+  ./hdminet run --edges examples/first-path.net
       the same network, but the falls and rises of its CEC line: `12000 0`, `15700 1` and so on
-  ./hdminet check < examples/film.test
+  ./hdminet check examples/film.test
       a network under test: `ok 1 - ..` for each line of its script that says what is to happen
-  ./hdminet step < examples/arbitration.steps
+  ./hdminet step examples/arbitration.steps
       two devices send at once: the line of that round edge by edge, and where each device then stands
   ./hdminet live
       a network as a co-process: each line of its script is answered as it comes, as by
       examples/live/active-source.py
-  ./hdminet asm < examples/frames.txt
+  ./hdminet asm examples/frames.txt
       `4>f active-source 1.0.0.0` gives `4f821000`
-  ./hdminet dis < examples/frames.hex
+  ./hdminet dis examples/frames.hex
       and `4f821000` gives `4>f active-source 1.0.0.0`
-  ./hdminet lay < examples/faults.lay
+  ./hdminet lay examples/faults.lay
       frames with a fault, as pulls of a script: `pull 1000000 3700` and so on
-  ./hdminet mon < examples/capture.edges
+  ./hdminet mon examples/capture.edges
       the falls and rises of a captured line give `1000 8251 silent 1` and so on
-  ./hdminet edid < examples/living-room.edid
+  ./hdminet edid examples/living-room.edid
       the bytes of an EDID give the lines `edid 1.3`, `maker SAM` and so on
-  ./hdminet edid --text < examples/living-room.edid.txt
+  ./hdminet edid --text examples/living-room.edid.txt
       and the lines give the bytes in hex
 
 Faults go to standard error, as `hdminet: script line 3: word`; with --explain indented lines follow.
 
-Exit status: 0 done; 1 input refused, or a test failed; 2 command line refused; 3 a read or write fault,
-or input past 1048576 bytes; 4 no memory; 5 an EDID fails --check.";
+Exit status: 0 done; 1 input refused, or a test failed; 2 command line refused; 3 a file that is not opened, a read
+or write fault, or input past 1048576 bytes; 4 no memory; 5 an EDID fails --check.";
 
 /// The flag that names a wire of a capture.
 const SIGNAL: (&str, &str, &str) = (
@@ -236,6 +250,7 @@ pub const CHECK_RULES: &str = "
   of --trace, --plain, --progress and --capture one is given at most; --json goes with --trace or --capture,
   and not with --plain or --progress
   --from, --signal and --glitch go with --capture alone, --signal with vcd and csv alone
+  several files go with neither --plain nor --json, and standard input, `-`, is none of them
 ";
 
 pub const CHECK_HELP: &str = "\
@@ -276,6 +291,12 @@ With --trace the report is followed by a line `# trace` and the lines of the tra
 --plain the output is the topology, the line `script` and the script without labels and expectations, line
 for line, whose run the report speaks of:
   ./hdminet check --plain < film.test | ./hdminet run
+
+Of several files the output is one report in version 14 of the protocol: the report of each below a line
+`# Subtest: NAME`, four spaces in, and then a test by itself, `ok N - NAME`; the lines of a sweep stand there
+after `# `. A file that is refused or not opened is `not ok`, is named on standard error, and does not stop
+the others; the status is the greatest of theirs:
+  ./hdminet check rooms/*.test
 
 Where a test fails, the status is 1 and standard error has `hdminet: failed tests N`; the report is written.
 
@@ -591,6 +612,10 @@ pub const EDID_FLAGS: &[(&str, &str)] = &[
         "Prints what a reading over DDC gives, segment by segment",
     ),
     (
+        "json",
+        "With --check, prints each line as an object of JSON",
+    ),
+    (
         "merge",
         "Reads a display's EDID and a receiver's, and prints what the receiver answers with",
     ),
@@ -641,9 +666,11 @@ pub const EDID_VALUES: &[(&str, &str, &str)] = &[
 pub const EDID_RULES: &str = "
   of --text, --words and --hex one is given at most, of --raw, --check, --meaning,
   --only-address and --ddc, of --address and --port, and of --eeodb and --as-source
+  --json goes with --check alone
   --below goes with --port alone, --speakers with --below alone, --nth with
   --hex alone, --rows with --merge alone, which goes with none of --text, --words,
   --nth, --eeodb and --as-source
+  two files go with --merge alone, and standard input, `-`, is none of them
 ";
 
 pub const EDID_HELP: &str = "\
@@ -711,6 +738,8 @@ With --check the output is a line for each rule that the EDID breaks, `fail RULE
 `fail timing N RULE` with detailed timings counted from 1. Status 5 is for a rule that fails:
   ./hdminet edid --check < tv.edid         fail srgb
                                            warn overscan
+With --json each is an object of JSON, whose first field is that line; then come its type, finding, and its
+severity, the number of the timing or null, and the rule.
 
 With --address the EDID has that physical address, and with --port the address of that port of the
 device: the EDID that a device there reads. Below an amplifier it has the amplifier's audio:

@@ -7,8 +7,10 @@ use Rattle.text_core.specs.Phys.{phys_of}
 use Rattle.text_core.specs.declared.phys.Phys.{Phys}
 use Rattle.edid_merge.specs.Tables.{receiver_table}
 use Rattle.edid_merge.specs.declared.table.Table.{Table}
+use Rattle.cli_words.specs.Form.{form_by}
 use Rattle.cli_words.specs.Joined.{joined}
 use Rattle.cli_words.specs.Rows.{rows_of}
+use Rattle.record_core.specs.declared.cell.Form.{Form}
 use Rattle.cli_words.specs.declared.choice.Asked.{Asked}
 use Rattle.cli_words.specs.declared.choice.CommandChoice.TheVariants.{Edid}
 use Rattle.cli_words.specs.declared.choice.EdidReading.TheVariants as readings
@@ -72,6 +74,7 @@ with_edid_flag flags word =
     else if bytes_eq word (codes "--meaning") && is_none flags.wanted then Some (record flags { wanted = Some wants.Meaning })
     else if bytes_eq word (codes "--only-address") && is_none flags.wanted then Some (record flags { wanted = Some wants.OnlyAddress })
     else if bytes_eq word (codes "--ddc") && is_none flags.wanted then Some (record flags { wanted = Some wants.Ddc })
+    else if bytes_eq word (codes "--json") && not flags.json then Some (record flags { json = true })
     else if bytes_eq word (codes "--address") && is_none flags.address then Some (record flags { waits = Some values.Address })
     else if bytes_eq word (codes "--port") && is_none flags.port then Some (record flags { waits = Some values.Port })
     else if bytes_eq word (codes "--below") && not flags.amplified then Some (record flags { waits = Some values.Below })
@@ -146,22 +149,27 @@ edid_source flags =
     else one_source flags.source flags.nth
 
 -- what is written
-abbrev pub edid_view : Option EdidOutput → Recipient → EdidShape → View
-edid_view None place shape = Whole place shape
-edid_view (Some wants.Raw) place shape = Whole place shapes.Bytes
-edid_view (Some wants.Check) place shape = Findings place
-edid_view (Some wants.Meaning) place shape = Meaning place
-edid_view (Some wants.OnlyAddress) place shape = Address place
-edid_view (Some wants.Ddc) place shape = Readout place
+abbrev pub edid_view : Option EdidOutput → Form → Recipient → EdidShape → View
+edid_view None form place shape = Whole place shape
+edid_view (Some wants.Raw) form place shape = Whole place shapes.Bytes
+edid_view (Some wants.Check) form place shape = Findings place form
+edid_view (Some wants.Meaning) form place shape = Meaning place
+edid_view (Some wants.OnlyAddress) form place shape = Address place
+edid_view (Some wants.Ddc) form place shape = Readout place
+
+-- the outputs of which there are objects
+abbrev pub has_objects : Option EdidOutput → Bool
+has_objects (Some wants.Check) = true
+has_objects _ = false
 
 -- what they ask for
 abbrev pub asked_by_view : EdidFlags → Source → Recipient → Asked
 asked_by_view flags source place = record {
-  choice = Edid source (unwrap_or flags.reading readings.Strict) (edid_view flags.wanted place (own_shape source));
+  choice = Edid source (unwrap_or flags.reading readings.Strict) (edid_view flags.wanted (form_by flags.json) place (own_shape source));
   explains = flags.explains;
 }
 
 abbrev pub edid_asked : EdidFlags → Option Asked
 edid_asked flags =
-    if is_some flags.waits then None
+    if is_some flags.waits || (flags.json && not (has_objects flags.wanted)) then None
     else option_and_then (λ source. option_map (asked_by_view flags source) (edid_place flags)) (edid_source flags)

@@ -3,9 +3,11 @@ pub mod Micros
 pub mod Rows
 pub mod RunFlags
 pub mod CheckFlags
+pub mod Form
 pub mod DisFlags
 pub mod MonFlags
 pub mod EdidFlags
 pub mod Line
-pub mod LiveFlags
+pub mod JsonFlags
 pub mod AtFault
+pub mod Operands

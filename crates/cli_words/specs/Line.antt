@@ -1,11 +1,11 @@
 -- What a command line asks for (own).
 use Rattle.std.specs.Prelude.{ℕ, List, [], ◌∷◌, Option, Some, None, if◌then◌else◌, false, codes, option_and_then, true}
-use Rattle.std.specs.Option.{option_map, option_or}
+use Rattle.std.specs.Option.{option_map}
 use Rattle.std.specs.Str.{bytes_eq}
 use Rattle.cli_words.specs.CheckFlags.{check_asked, check_flags}
 use Rattle.cli_words.specs.DisFlags.{dis_asked, dis_flags}
 use Rattle.cli_words.specs.EdidFlags.{edid_asked, edid_flags}
-use Rattle.cli_words.specs.LiveFlags.{live_asked, live_flags}
+use Rattle.cli_words.specs.JsonFlags.{json_flags, lay_asked, live_asked}
 use Rattle.cli_words.specs.MonFlags.{mon_asked, mon_flags}
 use Rattle.cli_words.specs.RunFlags.{run_asked, run_flags}
 use Rattle.cli_words.specs.declared.check_flags.CheckFlags.{CheckFlags}
@@ -13,6 +13,7 @@ use Rattle.cli_words.specs.declared.choice.Asked.{Asked}
 use Rattle.cli_words.specs.declared.choice.CommandChoice.{CommandChoice}
 use Rattle.cli_words.specs.declared.choice.CommandChoice.TheVariants as choices
 use Rattle.cli_words.specs.declared.edid_flags.EdidFlags.{EdidFlags}
+use Rattle.cli_words.specs.declared.json_flags.JsonFlags.{JsonFlags}
 use Rattle.cli_words.specs.declared.mon_flags.MonFlags.{MonFlags}
 use Rattle.cli_words.specs.declared.run_flags.RunFlags.{RunFlags}
 use Rattle.cli_words.specs.declared.subcommand.Subcommand.{Subcommand}
@@ -49,17 +50,20 @@ abbrev pub no_mon_flags : MonFlags
 no_mon_flags = record { form = None; named = false; glitch = None; margin = None; inverted = false; start = None; audit = false; timing = false; strict = false; folded = false; json = false; follows = false; explains = false; waits = None }
 
 abbrev pub no_edid_flags : EdidFlags
-no_edid_flags = record { source = None; nth = None; reading = None; wanted = None; address = None; port = None; amplified = false; spoken = false; merges = false; rows = None; explains = false; waits = None }
+no_edid_flags = record { source = None; nth = None; reading = None; wanted = None; json = false; address = None; port = None; amplified = false; spoken = false; merges = false; rows = None; explains = false; waits = None }
+
+abbrev pub no_json_flags : JsonFlags
+no_json_flags = record { json = false; explains = false }
 
 -- what a subcommand with these flags asks for
 abbrev pub asked_of : Subcommand → List (List ℕ) → Option Asked
 asked_of Run words = option_and_then run_asked (run_flags no_run_flags words)
 asked_of Check words = option_and_then check_asked (check_flags no_check_flags words)
 asked_of Step words = only_explained choices.Step words
-asked_of Live words = option_map live_asked (live_flags (record { json = false; explains = false }) words)
+asked_of Live words = option_map live_asked (json_flags no_json_flags words)
 asked_of Asm words = only_explained choices.Asm words
-asked_of Dis words = option_map dis_asked (dis_flags (record { meaning = false; explains = false }) words)
-asked_of Lay words = only_explained choices.Lay words
+asked_of Dis words = option_map dis_asked (dis_flags (record { meaning = false; json = false; explains = false }) words)
+asked_of Lay words = option_map lay_asked (json_flags no_json_flags words)
 asked_of Mon words = option_and_then mon_asked (mon_flags no_mon_flags words)
 asked_of Edid words = option_and_then edid_asked (edid_flags no_edid_flags words)
 
@@ -78,17 +82,7 @@ asked_with (word ∷ words) =
     if bytes_eq word (codes "--explain") then option_map explained (asked_as words)
     else asked_as (word ∷ words)
 
--- the same after the program's name
-abbrev pub asked_after : List (List ℕ) → Option Asked
-asked_after [] = None
-asked_after (name ∷ words) = asked_with words
-
--- the words before `--`, where that is the last one
-abbrev pub before_end : List (List ℕ) → List (List ℕ)
-before_end [] = []
-before_end (word ∷ []) = if bytes_eq word (codes "--") then [] else word ∷ []
-before_end (word ∷ next ∷ words) = word ∷ before_end (next ∷ words)
-
--- the program's name, a subcommand and its flags, and at the end `--` or not
+-- the same after the program's name: what the words of a command line ask for, without its operands
 abbrev pub asked_by : List (List ℕ) → Option Asked
-asked_by words = option_or (asked_after words) (asked_after (before_end words))
+asked_by [] = None
+asked_by (name ∷ words) = asked_with words

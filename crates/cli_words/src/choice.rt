@@ -2,6 +2,7 @@
 use capture_forms::CaptureForm;
 use edid_merge::Table;
 use follow_core::LineForm;
+use record_core::Form;
 use text_core::Phys;
 
 /// What is written of a run.
@@ -153,7 +154,7 @@ pub enum View {
     /// Its text for a device, and below each line what it means.
     Meaning(Recipient),
     /// The rules that it breaks.
-    Findings(Recipient),
+    Findings(Recipient, Form),
     /// The physical address in it.
     Address(Recipient),
     /// What a device reads of it over DDC.
@@ -205,9 +206,12 @@ pub enum CommandChoice {
     /// The texts of frames, from their bytes in hex, and below each, where it is wanted, what it means.
     Dis {
         meaning: bool,
+        form: Form,
     },
     /// The pulls that lay frames on the line, whole or with a fault, from their instants and texts.
-    Lay,
+    Lay {
+        form: Form,
+    },
     /// What a capture reports.
     Mon(MonChoice),
     /// What a capture in this form reports as its lines come; the windows are so many microseconds wider, 300 at most.

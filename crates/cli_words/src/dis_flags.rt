@@ -3,11 +3,13 @@ ghost use Rattle.std.specs.Prelude.{◌≡◌, map, string_bytes};
 ghost use Rattle.cli_words.specs.DisFlags.{dis_asked, dis_flags, one_dis_flag};
 
 use crate::choice::{Asked, CommandChoice};
+use crate::form::form_by;
 
 /// The flags that `dis` was given.
 #[derive(Clone, Copy)]
 pub struct DisFlags {
     pub meaning: bool,
+    pub json: bool,
     pub explains: bool,
 }
 
@@ -15,6 +17,7 @@ impl DisFlags {
     /// No flag.
     pub const NONE: DisFlags = DisFlags {
         meaning: false,
+        json: false,
         explains: false,
     };
 }
@@ -26,6 +29,10 @@ fn with_dis_flag(flags: DisFlags, word: &str) -> Option<DisFlags>
     match word {
         "--meaning" if !flags.meaning => Some(DisFlags {
             meaning: true,
+            ..flags
+        }),
+        "--json" if !flags.json => Some(DisFlags {
+            json: true,
             ..flags
         }),
         "--explain" if !flags.explains => Some(DisFlags {
@@ -53,6 +60,7 @@ pub fn dis_asked(flags: DisFlags) -> Asked
     Asked {
         choice: CommandChoice::Dis {
             meaning: flags.meaning,
+            form: form_by(flags.json),
         },
         explains: flags.explains,
     }

@@ -1,11 +1,13 @@
 //! The flags of `edid`.
 ghost use Rattle.std.specs.Prelude.{◌≡◌, map, string_bytes, option_and_then};
-ghost use Rattle.cli_words.specs.EdidFlags.{amplified_of, edid_asked, edid_flags, edid_place, edid_sound, edid_source, edid_view, nth_of, one_source, own_shape, pair_source, place_by, port_of, spoken_of, waited_edid, with_edid_flag, with_edid_value, with_edid_word};
+ghost use Rattle.cli_words.specs.EdidFlags.{amplified_of, edid_asked, edid_flags, edid_place, edid_sound, edid_source, edid_view, has_objects, nth_of, one_source, own_shape, pair_source, place_by, port_of, spoken_of, waited_edid, with_edid_flag, with_edid_value, with_edid_word};
 
 use crate::choice::{Asked, CommandChoice, EdidReading, EdidShape, Recipient, Sound, Source, View};
+use crate::form::form_by;
 use crate::joined::joined;
 use crate::rows::rows_of;
 use edid_merge::Table;
+use record_core::Form;
 use text_core::{Phys, number_in};
 
 /// A flag of `edid` that a value follows.
@@ -39,6 +41,8 @@ pub struct EdidFlags {
     /// What `--eeodb` or `--as-source` says of how it is read.
     pub reading: Option<EdidReading>,
     pub wanted: Option<EdidOutput>,
+    /// Its lines are objects of JSON.
+    pub json: bool,
     pub address: Option<Phys>,
     pub port: Option<u8>,
     pub amplified: bool,
@@ -60,6 +64,7 @@ impl EdidFlags {
         nth: None,
         reading: None,
         wanted: None,
+        json: false,
         address: None,
         port: None,
         amplified: false,
@@ -200,6 +205,10 @@ pub(crate) fn with_edid_flag(flags: EdidFlags, word: &str) -> Option<EdidFlags>
         }),
         "--ddc" if flags.wanted.is_none() => Some(EdidFlags {
             wanted: Some(EdidOutput::Ddc),
+            ..flags
+        }),
+        "--json" if !flags.json => Some(EdidFlags {
+            json: true,
             ..flags
         }),
         "--address" if flags.address.is_none() => Some(EdidFlags {
@@ -359,29 +368,36 @@ fn edid_source(flags: &EdidFlags) -> Option<Source>
 }
 
 // What is written.
-fn edid_view(wanted: Option<EdidOutput>, place: Recipient, shape: EdidShape) -> View
-    ensures { result ≡ edid_view wanted place shape }
+fn edid_view(wanted: Option<EdidOutput>, form: Form, place: Recipient, shape: EdidShape) -> View
+    ensures { result ≡ edid_view wanted form place shape }
 {
     match wanted {
         None => View::Whole(place, shape),
         Some(EdidOutput::Raw) => View::Whole(place, EdidShape::Bytes),
-        Some(EdidOutput::Check) => View::Findings(place),
+        Some(EdidOutput::Check) => View::Findings(place, form),
         Some(EdidOutput::Meaning) => View::Meaning(place),
         Some(EdidOutput::OnlyAddress) => View::Address(place),
         Some(EdidOutput::Ddc) => View::Readout(place),
     }
 }
 
+// Whether the output has objects of JSON.
+fn has_objects(wanted: Option<EdidOutput>) -> bool
+    ensures { result ≡ has_objects wanted }
+{
+    matches!(wanted, Some(EdidOutput::Check))
+}
+
 /// What `edid` with these flags asks for.
 pub fn edid_asked(flags: &EdidFlags) -> Option<Asked>
     ensures { result ≡ edid_asked flags.now }
 {
-    if flags.waits.is_some() {
+    if flags.waits.is_some() || (flags.json && !has_objects(flags.wanted)) {
         return None;
     }
     let source = edid_source(flags)?;
     let place = edid_place(flags)?;
-    let view = edid_view(flags.wanted, place, own_shape(source));
+    let view = edid_view(flags.wanted, form_by(flags.json), place, own_shape(source));
     let reading = flags.reading.unwrap_or(EdidReading::Strict);
     Some(Asked {
         choice: CommandChoice::Edid {

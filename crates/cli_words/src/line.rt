@@ -1,12 +1,12 @@
 //! Whole command lines.
 ghost use Rattle.std.specs.Prelude.{◌≡◌, map, string_bytes};
-ghost use Rattle.cli_words.specs.Line.{asked_after, asked_as, asked_by, asked_of, asked_with, before_end, only_explained};
+ghost use Rattle.cli_words.specs.Line.{asked_as, asked_by, asked_of, asked_with, only_explained};
 
 use crate::check_flags::{CheckFlags, check_asked, check_flags};
 use crate::choice::{Asked, CommandChoice};
 use crate::dis_flags::{DisFlags, dis_asked, dis_flags};
 use crate::edid_flags::{EdidFlags, edid_asked, edid_flags};
-use crate::live_flags::{LiveFlags, live_asked, live_flags};
+use crate::json_flags::{JsonFlags, json_flags, lay_asked, live_asked};
 use crate::mon_flags::{MonFlags, mon_asked, mon_flags};
 use crate::run_flags::{RunFlags, run_asked, run_flags};
 use crate::subcommand::{Subcommand, subcommand_of};
@@ -36,10 +36,10 @@ fn asked_of(subcommand: Subcommand, words: &[String]) -> Option<Asked>
         Subcommand::Run => run_asked(&run_flags(RunFlags::NONE, words)?),
         Subcommand::Check => check_asked(&check_flags(CheckFlags::NONE, words)?),
         Subcommand::Step => only_explained(CommandChoice::Step, words),
-        Subcommand::Live => Some(live_asked(live_flags(LiveFlags::NONE, words)?)),
+        Subcommand::Live => Some(live_asked(json_flags(JsonFlags::NONE, words)?)),
         Subcommand::Asm => only_explained(CommandChoice::Asm, words),
         Subcommand::Dis => Some(dis_asked(dis_flags(DisFlags::NONE, words)?)),
-        Subcommand::Lay => only_explained(CommandChoice::Lay, words),
+        Subcommand::Lay => Some(lay_asked(json_flags(JsonFlags::NONE, words)?)),
         Subcommand::Mon => mon_asked(&mon_flags(MonFlags::NONE, words)?),
         Subcommand::Edid => edid_asked(&edid_flags(EdidFlags::NONE, words)?),
     }
@@ -71,34 +71,14 @@ fn asked_with(words: &[String]) -> Option<Asked>
     }
 }
 
-// The same after the program's name.
-fn asked_after(words: &[String]) -> Option<Asked>
-    ensures { result ≡ asked_after (map string_bytes words.now) }
-{
-    match words {
-        [] => None,
-        [_, rest @ ..] => asked_with(rest),
-    }
-}
-
-// The words before `--`, where that is the last one.
-fn before_end(words: &[String]) -> &[String]
-    ensures { map string_bytes result.now ≡ before_end (map string_bytes words.now) }
-{
-    match words {
-        [] => words,
-        [front @ .., last] => { if last.as_str() == "--" { front } else { words } }
-    }
-}
-
-/// What a command line asks for: the program's name, a subcommand, its flags. The name alone asks for the trace of a run.
-/// A value stands after its flag, or in its word as `--port=1`; `--explain` may stand before the subcommand, and `--` at the end.
+/// What the words of a command line ask for, without its operands: the program's name, a subcommand, its flags. The name alone asks
+/// for the trace of a run. A value stands after its flag, or in its word as `--port=1`; `--explain` may stand before the subcommand.
 /// `None` where a word is another one, a flag stands twice, or flags do not go together.
 pub fn asked_by(words: &[String]) -> Option<Asked>
     ensures { result ≡ asked_by (map string_bytes words.now) }
 {
-    match asked_after(words) {
-        Some(asked) => Some(asked),
-        None => asked_after(before_end(words)),
+    match words {
+        [] => None,
+        [_, rest @ ..] => asked_with(rest),
     }
 }

@@ -1,18 +1,27 @@
 //! Each row through the call that the program makes.
-use crate::rows::{ADDRESSES, MEANINGS, REFUSED, REMARKS, SENTENCES, SPELLINGS, USER_CONTROLS};
-use message_hex::{DisError, dis_lines};
-use message_meaning::dis_with_meaning;
+use crate::rows::{
+    ADDRESSES, FRAME_OBJECTS, MEANING_OBJECTS, MEANINGS, REFUSED, REMARKS, SENTENCES, SPELLINGS,
+    USER_CONTROLS,
+};
+use message_hex::DisError;
+use message_meaning::dis_lines;
+use record_core::Form;
 use std::io::{self, ErrorKind, Write};
 use std::process::Abort;
 use text_core::Writes;
 
 /// What is written of a text, or why nothing is.
-fn reported(rt: &(impl Abort + AllocGlobal), text: &str) -> String {
+fn written(rt: &(impl Abort + AllocGlobal), text: &str, form: Form, meaning: bool) -> String {
     let mut out = Vec::new(rt.alloc());
-    match dis_lines(text.as_bytes(), &mut Writes::new(&mut out)) {
+    match dis_lines(text.as_bytes(), form, meaning, &mut Writes::new(&mut out)) {
         Ok(()) => String::from_utf8(out).expect(rt, "a text"),
         Err(error) => format!(in rt.alloc(); "{error}").expect(rt, "a refusal"),
     }
+}
+
+/// Its lines.
+fn reported(rt: &(impl Abort + AllocGlobal), text: &str) -> String {
+    written(rt, text, Form::Text, false)
 }
 
 fn holds(rt: &impl Abort, holds: bool, case: &str) {
@@ -35,13 +44,9 @@ fn spellings_are_read(rt: HostRuntime) {
     are_reported(&rt, USER_CONTROLS, "\n", "");
 }
 
-/// What is written of a text with the meanings of its frames, or why nothing is.
+/// Its lines, with the meanings of its frames.
 fn meant(rt: &(impl Abort + AllocGlobal), text: &str) -> String {
-    let mut out = Vec::new(rt.alloc());
-    match dis_with_meaning(text.as_bytes(), &mut Writes::new(&mut out)) {
-        Ok(()) => String::from_utf8(out).expect(rt, "a text"),
-        Err(error) => format!(in rt.alloc(); "{error}").expect(rt, "a refusal"),
-    }
+    written(rt, text, Form::Text, true)
 }
 
 /// Each frame means what stands after its arrow.
@@ -63,6 +68,49 @@ fn frames_mean_what_they_say(rt: HostRuntime) {
 fn each_message_has_its_sentence(rt: HostRuntime) {
     are_meant(&rt, SENTENCES);
     are_meant(&rt, ADDRESSES);
+}
+
+/// The object of a line has that line, and these fields.
+fn object_of(rt: &(impl Abort + AllocGlobal), line: &str, fields: &str) -> String {
+    format!(in rt.alloc(); "{{\"line\":\"{line}\",{fields}}}\n").expect(rt, line)
+}
+
+#[test]
+fn frames_are_objects(rt: HostRuntime) {
+    for row in FRAME_OBJECTS.lines() {
+        let (input, object) = row.split_once(" => ").expect(&rt, row);
+        let (line, fields) = object.split_once(" | ").expect(&rt, row);
+        let want = object_of(&rt, line, fields);
+        holds(&rt, written(&rt, input, Form::Json, false) == want, row);
+    }
+}
+
+/// Below the object of a frame stands that of what it means.
+#[test]
+fn meanings_are_objects(rt: HostRuntime) {
+    for row in MEANING_OBJECTS.lines() {
+        let (input, object) = row.split_once(" => ").expect(&rt, row);
+        let (line, fields) = object.split_once(" | ").expect(&rt, row);
+        let meaning = object_of(&rt, line, fields);
+        let frame = written(&rt, input, Form::Json, false);
+        let want = format!(in rt.alloc(); "{frame}{meaning}").expect(&rt, row);
+        holds(&rt, written(&rt, input, Form::Json, true) == want, row);
+    }
+}
+
+#[test]
+fn objects_are_refused_as_lines(rt: HostRuntime) {
+    let text = "44\n4g\n";
+    holds(
+        &rt,
+        written(&rt, text, Form::Json, true).as_str() == "line 2: digit",
+        text,
+    );
+    holds(
+        &rt,
+        written(&rt, "", Form::Json, true).as_str() == "",
+        "nothing",
+    );
 }
 
 #[test]
@@ -124,6 +172,7 @@ impl Write for Narrow {
 fn is_cut_off(
     rt: &(impl Abort + AllocGlobal),
     text: &str,
+    form: Form,
     meaning: bool,
     want: &str,
     room: usize,
@@ -132,12 +181,7 @@ fn is_cut_off(
         bytes: Vec::new(rt.alloc()),
         room,
     };
-    let mut sink = Writes::new(&mut out);
-    let done = if meaning {
-        dis_with_meaning(text.as_bytes(), &mut sink)
-    } else {
-        dis_lines(text.as_bytes(), &mut sink)
-    };
+    let done = dis_lines(text.as_bytes(), form, meaning, &mut Writes::new(&mut out));
     let count = match done {
         Ok(()) => want.len() as u128,
         Err(DisError::Write(fault)) => fault.count,
@@ -151,12 +195,30 @@ fn a_writer_that_fails_has_the_front(rt: HostRuntime) {
     let text = "4f a6 06\n# none\n44\n";
     let want = "4>f op-a6 :06 # report-features\n4>4\n";
     for room in 0..=want.len() {
-        holds(&rt, is_cut_off(&rt, text, false, want, room), want);
+        holds(
+            &rt,
+            is_cut_off(&rt, text, Form::Text, false, want, room),
+            want,
+        );
     }
     let text = "4f a6 06\n# none\n44\n";
     let want =
         "4>f op-a6 :06 # report-features\n  Playback Device 1 sends all devices op-a6: report-features (operands 06)\n4>4\n  a device asks whether it may be Playback Device 1\n";
     for room in 0..=want.len() {
-        holds(&rt, is_cut_off(&rt, text, true, want, room), want);
+        holds(
+            &rt,
+            is_cut_off(&rt, text, Form::Text, true, want, room),
+            want,
+        );
+    }
+    let text = "44\n";
+    let want =
+        "{\"line\":\"4>4\",\"type\":\"frame\",\"frame\":\"4>4\",\"word\":null,\"initiator\":\"4\",\"destination\":\"4\",\"opcode\":null,\"name\":null,\"operands\":null,\"bytes\":\"44\"}\n";
+    for room in 0..=want.len() {
+        holds(
+            &rt,
+            is_cut_off(&rt, text, Form::Json, false, want, room),
+            want,
+        );
     }
 }

@@ -308,3 +308,29 @@ ee => a device asks whether it may be Specific Use
 a2 36 => Tuner 4 asks Recording Device 2 to go to standby
 d3 36 => the reserved address 13 asks Tuner 1 to go to standby
 8b 36 => Playback Device 2 asks Playback Device 3 to go to standby";
+
+/// A frame in hex, the line of its object as a string of JSON has it, and the fields after it: by docs/formats.md.
+pub(crate) const FRAME_OBJECTS: &str = "\
+44 => 4>4 | \"type\":\"frame\",\"frame\":\"4>4\",\"word\":null,\"initiator\":\"4\",\"destination\":\"4\",\"opcode\":null,\"name\":null,\"operands\":null,\"bytes\":\"44\"
+4f 82 10 00 => 4>f active-source 1.0.0.0 | \"type\":\"frame\",\"frame\":\"4>f active-source 1.0.0.0\",\"word\":null,\"initiator\":\"4\",\"destination\":\"f\",\"opcode\":\"82\",\"name\":\"active-source\",\"operands\":\"1000\",\"bytes\":\"4f821000\"
+10 36 => 1>0 standby | \"type\":\"frame\",\"frame\":\"1>0 standby\",\"word\":null,\"initiator\":\"1\",\"destination\":\"0\",\"opcode\":\"36\",\"name\":\"standby\",\"operands\":null,\"bytes\":\"1036\"
+40 90 02 => 4>0 report-power-status :02 # standby-to-on | \"type\":\"frame\",\"frame\":\"4>0 report-power-status :02\",\"word\":\"standby-to-on\",\"initiator\":\"4\",\"destination\":\"0\",\"opcode\":\"90\",\"name\":\"report-power-status\",\"operands\":\"02\",\"bytes\":\"409002\"
+4f a6 06 => 4>f op-a6 :06 # report-features | \"type\":\"frame\",\"frame\":\"4>f op-a6 :06\",\"word\":\"report-features\",\"initiator\":\"4\",\"destination\":\"f\",\"opcode\":\"a6\",\"name\":null,\"operands\":\"06\",\"bytes\":\"4fa606\"
+40 47 61 23 62 => 4>0 set-osd-name \\\"a#b\\\" | \"type\":\"frame\",\"frame\":\"4>0 set-osd-name \\\"a#b\\\"\",\"word\":null,\"initiator\":\"4\",\"destination\":\"0\",\"opcode\":\"47\",\"name\":\"set-osd-name\",\"operands\":\"612362\",\"bytes\":\"4047612362\"
+40 47 5c => 4>0 set-osd-name \\\"\\\\\\\" | \"type\":\"frame\",\"frame\":\"4>0 set-osd-name \\\"\\\\\\\"\",\"word\":null,\"initiator\":\"4\",\"destination\":\"0\",\"opcode\":\"47\",\"name\":\"set-osd-name\",\"operands\":\"5c\",\"bytes\":\"40475c\"";
+
+/// A frame in hex, the line of the object of what it means, and the fields after it.
+pub(crate) const MEANING_OBJECTS: &str = "\
+44 =>   a device asks whether it may be Playback Device 1 | \"type\":\"meaning\",\"sender\":null,\"verb\":null,\"receiver\":null,\"text\":\"Playback Device 1\",\"operand\":null,\"others\":null,\"word\":null,\"operands\":null
+05 =>   TV asks Audio System to acknowledge | \"type\":\"meaning\",\"sender\":\"TV\",\"verb\":\"asks\",\"receiver\":\"Audio System\",\"text\":\"to acknowledge\",\"operand\":null,\"others\":null,\"word\":null,\"operands\":null
+40 04 =>   Playback Device 1 asks TV to turn on and show its picture | \"type\":\"meaning\",\"sender\":\"Playback Device 1\",\"verb\":\"asks\",\"receiver\":\"TV\",\"text\":\"to turn on and show its picture\",\"operand\":null,\"others\":null,\"word\":null,\"operands\":null
+40 41 24 =>   Playback Device 1 asks TV to play: forward | \"type\":\"meaning\",\"sender\":\"Playback Device 1\",\"verb\":\"asks\",\"receiver\":\"TV\",\"text\":\"to play\",\"operand\":\"forward\",\"others\":null,\"word\":null,\"operands\":null
+8f 84 11 00 04 =>   Playback Device 2 tells all devices its physical address and its type: 1.1.0.0, playback | \"type\":\"meaning\",\"sender\":\"Playback Device 2\",\"verb\":\"tells\",\"receiver\":\"all devices\",\"text\":\"its physical address and its type\",\"operand\":\"1.1.0.0\",\"others\":\"playback\",\"word\":null,\"operands\":null
+40 00 9f 04 =>   Playback Device 1 tells TV that it refuses get-cec-version: refused | \"type\":\"meaning\",\"sender\":\"Playback Device 1\",\"verb\":\"tells\",\"receiver\":\"TV\",\"text\":\"that it refuses\",\"operand\":\"get-cec-version\",\"others\":\"refused\",\"word\":null,\"operands\":null
+b0 00 a6 00 =>   Playback Device 3 tells TV that it refuses a6: unrecognized | \"type\":\"meaning\",\"sender\":\"Playback Device 3\",\"verb\":\"tells\",\"receiver\":\"TV\",\"text\":\"that it refuses\",\"operand\":\"a6\",\"others\":\"unrecognized\",\"word\":null,\"operands\":null
+40 00 9f 05 =>   Playback Device 1 tells TV that it refuses: undetermined (operands 9f05) | \"type\":\"meaning\",\"sender\":\"Playback Device 1\",\"verb\":\"tells\",\"receiver\":\"TV\",\"text\":\"that it refuses\",\"operand\":null,\"others\":null,\"word\":\"undetermined\",\"operands\":\"9f05\"
+40 00 05 =>   Playback Device 1 tells TV that it refuses (operands 05) | \"type\":\"meaning\",\"sender\":\"Playback Device 1\",\"verb\":\"tells\",\"receiver\":\"TV\",\"text\":\"that it refuses\",\"operand\":null,\"others\":null,\"word\":null,\"operands\":\"05\"
+40 47 46 69 6c 6d 20 31 =>   Playback Device 1 tells TV its name: \\\"Film 1\\\" | \"type\":\"meaning\",\"sender\":\"Playback Device 1\",\"verb\":\"tells\",\"receiver\":\"TV\",\"text\":\"its name\",\"operand\":\"\\\"Film\",\"others\":\"1\\\"\",\"word\":null,\"operands\":null
+40 a5 =>   Playback Device 1 sends TV op-a5: give-features | \"type\":\"meaning\",\"sender\":\"Playback Device 1\",\"verb\":\"sends\",\"receiver\":\"TV\",\"text\":\"op-a5\",\"operand\":null,\"others\":null,\"word\":\"give-features\",\"operands\":null
+4f a6 06 =>   Playback Device 1 sends all devices op-a6: report-features (operands 06) | \"type\":\"meaning\",\"sender\":\"Playback Device 1\",\"verb\":\"sends\",\"receiver\":\"all devices\",\"text\":\"op-a6\",\"operand\":null,\"others\":null,\"word\":\"report-features\",\"operands\":\"06\"
+40 e5 =>   Playback Device 1 sends TV op-e5 | \"type\":\"meaning\",\"sender\":\"Playback Device 1\",\"verb\":\"sends\",\"receiver\":\"TV\",\"text\":\"op-e5\",\"operand\":null,\"others\":null,\"word\":null,\"operands\":null";

@@ -16,11 +16,13 @@ use Rattle.edid_tree.specs.declared.plug.Plug.{Plug}
 use Rattle.edid_tree.specs.declared.plug.AddError.{AddError}
 use Rattle.edid_tree.specs.declared.plug.PlugError.{PlugError}
 use Rattle.text_core.specs.Lines.{is_skipped, lines_of}
-use Rattle.text_core.specs.Number.{number_of}
-use Rattle.text_core.specs.Words.{one_of, three_of, words_of}
+use Rattle.text_core.specs.Words.{words_of}
 use Rattle.capture_vcd.specs.Dump.{is_end, is_space}
-use Rattle.text_core.specs.Kind.{kind_named}
-use Rattle.room_script.specs.Topology.{Plan, after_line, bytes_of, device_line, device_read, edid_line, edid_read, line_read, lines_read, plug_line, plug_read, unless_add, unless_plug, plan_with_words}
+use Rattle.text_forms.specs.Forms.{Meaning, Said, kind_at, line_of, port_at, ports_at, text_at}
+use Rattle.room_lines.specs.Topology.{topology_rows}
+use Rattle.room_lines.specs.declared.topology.TopologyVerb.{TopologyVerb}
+use Rattle.room_lines.specs.declared.topology.TopologyVerb.TheVariants.{Device, Plug as PlugForm, Edid}
+use Rattle.room_script.specs.Topology.{Plan, after_line, bytes_of, checked, checked_in, device_checked, edid_checked, edid_read, line_read, lines_read, plug_checked, unless_add, unless_plug}
 use Rattle.text_core.specs.declared.at.At.{At}
 use Rattle.room_script.specs.declared.topology.TopologyCause.{TopologyCause}
 use Rattle.text_core.specs.At.{at_line, at_word}
@@ -163,57 +165,45 @@ is_named : (a b : Bool) → (not a || b) ≡ false → a ≡ true
 is_named true b h = refl
 is_named false b h = cc
 
-keeps_device : (plan : Plan) (name : List ℕ) (kind : Option Kind) (ports : Option ℕ) → AreNamed plan.tree → Keeps (device_read plan name kind ports)
+keeps_device : (plan : Plan) (name : List ℕ) (kind : Kind) (ports : ℕ) → AreNamed plan.tree → Keeps (device_checked plan name kind ports)
 unfolding Keeps
-keeps_device plan name None ports h = tt
-keeps_device plan name (Some kind) None h = tt
-keeps_device plan name (Some kind) (Some ports) h =
-    keeps_if (nat_lt 15 ports) (Err (at_word 3 causes.Number)) _ (λ e. tt) (λ e.
+keeps_device plan name kind ports h =
     keeps_if (not (is_name name) || is_some (device_named plan.tree name)) (Err (at_word 1 causes.Name)) _ (λ g. tt) (λ g.
     keeps_add (add_fault 15 plan.tree name kind) (record plan { tree = tree_with_device plan.tree name kind ports })
     (All-append (λ (n : Node). is_name n.name ≡ true) plan.tree (record { name = name; kind = kind; ports = ports; plug = None } ∷ []) h
     (All-cons (λ (n : Node). is_name n.name ≡ true) (record { name = name; kind = kind; ports = ports; plug = None }) []
-    (is_named (is_name name) (is_some (device_named plan.tree name)) g) (All-nil (λ (n : Node). is_name n.name ≡ true))))))
+    (is_named (is_name name) (is_some (device_named plan.tree name)) g) (All-nil (λ (n : Node). is_name n.name ≡ true)))))
 
-keeps_device_line : (plan : Plan) (many : ℕ) (words : Option (List ℕ × List ℕ × List ℕ)) → AreNamed plan.tree → Keeps (device_line plan many words)
+keeps_plugged : (plan : Plan) (child parent : Option ℕ) (port : ℕ) → AreNamed plan.tree → Keeps (plug_checked plan child parent port)
 unfolding Keeps
-keeps_device_line plan many None h = tt
-keeps_device_line plan many (Some words) h = keeps_device plan words.0 (kind_named words.1) (number_of words.2) h
+keeps_plugged plan None parent port h = tt
+keeps_plugged plan (Some child) None port h = tt
+keeps_plugged plan (Some child) (Some parent) port h =
+    keeps_plug (plug_fault plan.tree child parent port) (record plan { tree = tree_with_plug plan.tree child parent port }) (named_plug plan.tree child _ h)
 
-keeps_plug_read : (plan : Plan) (port child parent : Option ℕ) → AreNamed plan.tree → Keeps (plug_read plan port child parent)
+keeps_bytes : (plan : Plan) (bytes : Option (List ℕ)) → AreNamed plan.tree → Keeps (edid_read plan bytes)
 unfolding Keeps
-keeps_plug_read plan None child parent h = tt
-keeps_plug_read plan (Some port) None parent h = tt
-keeps_plug_read plan (Some port) (Some child) None h = tt
-keeps_plug_read plan (Some port) (Some child) (Some parent) h =
-    keeps_plug (plug_fault plan.tree child parent (min port 255)) (record plan { tree = tree_with_plug plan.tree child parent (min port 255) }) (named_plug plan.tree child _ h)
+keeps_bytes plan None h = tt
+keeps_bytes plan (Some bytes) h = h
 
-keeps_plug_line : (plan : Plan) (many : ℕ) (words : Option (List ℕ × List ℕ × List ℕ)) → AreNamed plan.tree → Keeps (plug_line plan many words)
+keeps_edid : (plan : Plan) (hex : List ℕ) → AreNamed plan.tree → Keeps (edid_checked plan hex)
 unfolding Keeps
-keeps_plug_line plan many None h = tt
-keeps_plug_line plan many (Some words) h = keeps_plug_read plan (number_of words.2) (device_named plan.tree words.0) (device_named plan.tree words.1) h
+keeps_edid plan hex h = keeps_if (is_some plan.edid) (Err (at_word 0 causes.Word)) (edid_read plan (bytes_of hex)) (λ e. tt) (λ e. keeps_bytes plan (bytes_of hex) h)
 
-keeps_edid : (plan : Plan) (bytes : Option (List ℕ)) → AreNamed plan.tree → Keeps (edid_read plan bytes)
-unfolding Keeps
-keeps_edid plan None h = tt
-keeps_edid plan (Some bytes) h = h
+keeps_checked : (plan : Plan) (verb : TopologyVerb) (values : List Meaning) → AreNamed plan.tree → Keeps (checked plan verb values)
+keeps_checked plan Device values h = keeps_device plan (text_at values 1) (kind_at values 2) (ports_at values 3) h
+keeps_checked plan PlugForm values h = keeps_plugged plan (device_named plan.tree (text_at values 1)) (device_named plan.tree (text_at values 2)) (port_at values 3) h
+keeps_checked plan Edid values h = keeps_edid plan (text_at values 1) h
 
-keeps_edid_line : (plan : Plan) (many : ℕ) (word : Option (List ℕ)) → AreNamed plan.tree → Keeps (edid_line plan many word)
+keeps_said : (plan : Plan) (read : Said TopologyVerb) → AreNamed plan.tree → Keeps (checked_in plan read)
 unfolding Keeps
-keeps_edid_line plan many None h = tt
-keeps_edid_line plan many (Some word) h = keeps_if (is_some plan.edid) (Err (at_word 0 causes.Word)) (edid_read plan (bytes_of word)) (λ e. tt) (λ e. keeps_edid plan (bytes_of word) h)
-
-keeps_worded : (plan : Plan) (words : List (List ℕ)) → AreNamed plan.tree → Keeps (plan_with_words plan words)
-unfolding Keeps
-keeps_worded plan [] h = tt
-keeps_worded plan (verb ∷ words) h =
-    keeps_if (bytes_eq verb (codes "device")) (device_line plan (length words) (three_of words)) _ (λ e. keeps_device_line plan (length words) (three_of words) h) (λ e.
-    keeps_if (bytes_eq verb (codes "plug")) (plug_line plan (length words) (three_of words)) _ (λ g. keeps_plug_line plan (length words) (three_of words) h) (λ g.
-    keeps_if (bytes_eq verb (codes "edid")) (edid_line plan (length words) (one_of words)) (Err (at_word 0 causes.Word)) (λ k. keeps_edid_line plan (length words) (one_of words) h) (λ k. tt)))
+keeps_said plan (Err fault) h = tt
+keeps_said plan (Ok read) h = keeps_checked plan read.0 read.1 h
 
 keeps_line : (plan : Plan) (line : List ℕ) → AreNamed plan.tree → Keeps (line_read plan line)
 unfolding Keeps
-keeps_line plan line h = keeps_if (is_skipped line) (Ok plan) (plan_with_words plan (words_of line)) (λ e. h) (λ e. keeps_worded plan (words_of line) h)
+keeps_line plan line h =
+    keeps_if (is_skipped line) (Ok plan) (checked_in plan (line_of topology_rows (words_of line))) (λ e. h) (λ e. keeps_said plan (line_of topology_rows (words_of line)) h)
 
 named_lines : (lines : List (List ℕ)) (number : ℕ) (plan end : Plan) → AreNamed plan.tree → lines_read lines number plan ≡ Ok end → AreNamed end.tree
 unfolding Keeps

@@ -99,7 +99,13 @@ end 10|expect state 5 tv active=1.2 => line 2: pattern at 4
 end 10|label a expect state 5 tv not on standby=on => line 2: pattern at 8
 end 10|expect state 11 tv nonsense => line 2: order at 2
 end 10|expect state 5 p2 nonsense => line 2: name at 3
-end 10|expect state 5 tv 4+8 -+9 a+- combo - f => none
+end 10|expect state 5 tv 4+8 -+- a+- combo - f => none
+end 10|expect state 5 tv 4+8 -+9 => line 2: pattern at 5
+end 10|expect state 5 tv not volume=020 => line 2: pattern at 5
+end 10|expect state 5 tv volume=20 queue=00 => line 2: pattern at 5
+end 10|expect state 5 tv sel=007 => line 2: pattern at 4
+end 10|label a expect state 5 tv lang=200 => line 2: pattern at 6
+end 10|expect state 5 tv volume=18446744073709551616 => line 2: pattern at 4
 end 10|expect state x p2 on => line 2: number at 2
 end 10|expect state 05 tv on => line 2: number at 2
 end 10|expect state 1000000000001 p2 on => line 2: number at 2

@@ -1,16 +1,20 @@
 -- A word is found to be one of a state line exactly where some state line can have it.
-use Rattle.std.proofs.Common.{◌≡◌, ℕ, zero, suc, ◌==◌, ◌&&◌, ◌||◌, ◌⊎◌, inl, inr, Bool, true, false, codes, List, [], ◌∷◌, ◌++◌, Option, Some, None, is_some, slice_get, refl, sym, ap, ◌∙◌, arith, true≢false}
-use Rattle.std.specs.List.{list_all, list_any}
+use Rattle.std.proofs.Common.{◌≡◌, ℕ, zero, suc, ◌+◌, ◌-◌, ◌*◌, ◌/◌, ◌%◌, ◌<◌, ◌≤◌, ◌^◌, ◌==◌, nat_lt, nat_le, ◌&&◌, ◌||◌, ◌⊎◌, inl, inr, Bool, true, false, if◌then◌else◌, codes, length, List, [], ◌∷◌, ◌++◌, Option, Some, None, is_some, slice_get, refl, sym, ap, ◌∙◌, arith, true≢false}
+use Rattle.std.specs.Fmt.{decimal}
+use Rattle.std.specs.List.{flat_map, list_all, list_any}
 use Rattle.std.specs.Str.{bytes_eq}
 use Rattle.std.proofs.lemmas.Grind.{common_steps}
 use Rattle.std.proofs.lemmas.Slice.Eq.{bytes_eq-Decides}
+use Rattle.text_core.specs.Bytes.{are_bytes}
 use Rattle.text_core.specs.Kind.{kind_named, kind_word, kinds}
+use Rattle.text_core.specs.Number.{number_of}
+use Rattle.text_core.specs.Piece.{hex_text}
 use Rattle.text_core.specs.declared.kind.Kind.{Kind}
 use Rattle.text_core.proofs.KindWords.{kind_read_again, word_of_found}
 use Rattle.expect_text.specs.Laws.{StateWordsAreMet}
 use Rattle.expect_text.specs.Parts.{IsTextOf, has}
-use Rattle.expect_text.specs.StateTest.{by_front, by_many, by_one, fields, is_bare, is_empty, is_of_field, is_pair, is_second, is_state_word, is_text, is_text_or_dash, is_value}
-use Rattle.expect_text.specs.StateWords.{IsBare, IsDash, IsField, IsPair, IsStateWord, IsUnit, IsValue, key, note_parts, number_parts, physical_parts, value_of}
+use Rattle.expect_text.specs.StateTest.{by_front, by_many, by_one, fields, is_bare, is_dash, is_empty, is_number, is_of_field, is_pair, is_second, is_state_word, is_text, is_text_or_dash, is_value, number_by, of_bytes}
+use Rattle.expect_text.specs.StateWords.{AreBytes, IsBare, IsDash, IsField, IsNumber, IsPair, IsStateWord, IsUnit, IsValue, key, note_parts, physical_parts, value_of}
 use Rattle.expect_text.specs.declared.part.Class.TheVariants.{Hex}
 use Rattle.expect_text.specs.declared.part.PatternPart.{PatternPart}
 use Rattle.expect_text.specs.declared.part.PatternPart.TheVariants.{Byte, One, Many, Word, Unworded, Opcode}
@@ -18,6 +22,8 @@ use Rattle.expect_text.specs.declared.state_words.StateField.{StateField}
 use Rattle.expect_text.specs.declared.state_words.StateField.TheVariants.{Active, Path, Deck, Menu, Audio, Volume, Mute, Arc, Selected, Language, Osd, Held, Heard, Sub, Queue, Dropped}
 use Rattle.expect_text.specs.declared.state_words.Value.{Value}
 use Rattle.expect_text.specs.declared.state_words.Value.TheVariants as value
+use Rattle.capture_core.proofs.Numbers.{number_again}
+use Rattle.expect_text.proofs.Readings.{all_hex}
 use Rattle.expect_text.proofs.Truth.{and_both, either, first_of, or_left, or_right, second_of}
 
 -- ---- texts
@@ -108,6 +114,106 @@ dashed_have : (parts : List PatternPart) → is_plain parts ≡ true → (text :
 dashed_have parts p text (inl h) = or_left (is_text parts text) (bytes_eq text (codes "-")) (text_have parts p text h)
 dashed_have parts p text (inr h) = or_right (is_text parts text) (bytes_eq text (codes "-")) (text_itself text (codes "-") h)
 
+-- ---- numbers
+
+number_by_found : (most : ℕ) (text : List ℕ) (o : Option ℕ) → number_by most text o ≡ true → IsNumber most text
+number_by_found most text None h = absurd (true≢false (sym h))
+number_by_found most text (Some n) h =
+    (n, grind (arith, common_steps, first_of (nat_le n most) (bytes_eq (decimal n) text) h), sym (same_text (decimal n) text (second_of (nat_le n most) (bytes_eq (decimal n) text) h)))
+
+number_found : (most : ℕ) (text : List ℕ) → is_number most text ≡ true → IsNumber most text
+number_found most text h = number_by_found most text (number_of text) h
+
+at_most : (n most : ℕ) → n ≤ most → nat_le n most ≡ true
+at_most n most l = grind (arith, common_steps)
+
+number_has : (most : ℕ) → most < 2 ^ 64 → (text : List ℕ) → IsNumber most text → is_number most text ≡ true
+number_has most small text h =
+    let l : h.0 ≤ most = h.1 in
+    ap (is_number most) h.2 ∙ ap (number_by most (decimal h.0)) (number_again h.0 (omega (arith, l, small)))
+    ∙ and_both (nat_le h.0 most) (bytes_eq (decimal h.0) (decimal h.0)) (at_most h.0 most l) (text_itself (decimal h.0) (decimal h.0) refl)
+
+numbered_found : (most : ℕ) (text : List ℕ) → (is_number most text || is_dash text) ≡ true → IsNumber most text ⊎ IsDash text
+numbered_found most text h = either (is_number most text) (is_dash text) h (λ k. inl (number_found most text k)) (λ k. inr (same_text text (codes "-") k))
+
+numbered_has : (most : ℕ) → most < 2 ^ 64 → (text : List ℕ) → IsNumber most text ⊎ IsDash text → (is_number most text || is_dash text) ≡ true
+numbered_has most small text (inl h) = or_left (is_number most text) (is_dash text) (number_has most small text h)
+numbered_has most small text (inr h) = or_right (is_number most text) (is_dash text) (text_itself text (codes "-") h)
+
+-- ---- bytes in hex
+
+-- a hex digit is that of a number below 16
+abbrev digit : ℕ → ℕ
+digit n = if nat_lt n 10 then 48 + n else 87 + n
+
+pub digit_of : (b : ℕ) → has Hex b ≡ true → (n : ℕ) × (n < 16) × (digit n ≡ b)
+digit_of b h = by (nat_lt b 58) refl
+  where
+    by : (c : Bool) → nat_lt b 58 ≡ c → (n : ℕ) × (n < 16) × (digit n ≡ b)
+    by true e = (b - 48, grind (arith, common_steps), grind (arith, common_steps))
+    by false e = (b - 87, grind (arith, common_steps), grind (arith, common_steps))
+
+-- two of them are those of a byte
+pub byte_of : (a b : ℕ) → has Hex a ≡ true → has Hex b ≡ true → (n : ℕ) × (nat_lt n 256 ≡ true) × (hex_text n ≡ a ∷ b ∷ [])
+byte_of a b h k =
+    let x = digit_of a h in
+    let y = digit_of b k in
+    let lx : x.0 < 16 = x.1 in
+    let ly : y.0 < 16 = y.1 in
+    let up : (x.0 * 16 + y.0) / 16 ≡ x.0 = omega arith in
+    let down : (x.0 * 16 + y.0) % 16 ≡ y.0 = omega arith in
+    let ea : digit ((x.0 * 16 + y.0) / 16) ≡ a = ap digit up ∙ x.2 in
+    let eb : digit ((x.0 * 16 + y.0) % 16) ≡ b = ap digit down ∙ y.2 in
+    (x.0 * 16 + y.0, grind (arith, common_steps), ap (λ t. t ∷ digit ((x.0 * 16 + y.0) % 16) ∷ []) ea ∙ ap (λ t. a ∷ t ∷ []) eb)
+
+abbrev from_size : ℕ → List ℕ → Bool
+from_size least text = (length text % 2 == 0) && nat_le least (length text / 2)
+
+abbrev of_size : ℕ → ℕ → List ℕ → Bool
+of_size least most text = from_size least text && nat_le (length text / 2) most
+
+is_even : (n m : ℕ) → n ≡ m + m → (n % 2 == 0) ≡ true
+is_even n m e = let half : n % 2 ≡ 0 = omega (arith, e) in ap (λ k. k == 0) half
+
+bytes_in : (text : List ℕ) → list_all (has Hex) text ≡ true → length text % 2 ≡ 0
+    → (bytes : List ℕ) × (are_bytes bytes ≡ true) × (length text ≡ length bytes + length bytes) × (text ≡ flat_map hex_text bytes)
+bytes_in [] h even = ([], refl, refl, refl)
+bytes_in (a ∷ []) h even = absurd (omega arith)
+bytes_in (a ∷ b ∷ text) h even =
+    let k = second_of (has Hex a) (has Hex b && list_all (has Hex) text) h in
+    let n = byte_of a b (first_of (has Hex a) (has Hex b && list_all (has Hex) text) h) (first_of (has Hex b) (list_all (has Hex) text) k) in
+    let more = bytes_in text (second_of (has Hex b) (list_all (has Hex) text) k) (omega arith) in
+    let twice : length text ≡ length more.0 + length more.0 = more.2 in
+    (n.0 ∷ more.0, and_both (nat_lt n.0 256) (are_bytes more.0) n.1 more.1, omega arith, ap (λ t. a ∷ b ∷ t) more.3 ∙ ap (λ t. t ++ flat_map hex_text more.0) (sym n.2))
+
+digits_of : (bytes : List ℕ) → length (flat_map hex_text bytes) ≡ length bytes + length bytes
+digits_of [] = refl
+digits_of (b ∷ bs) = let rest = digits_of bs in omega arith
+
+bytes_found : (least most : ℕ) (text : List ℕ) → of_bytes least most text ≡ true → AreBytes least most text
+bytes_found least most text h =
+    let up = first_of (of_size least most text) (list_all (has Hex) text) h in
+    let low = first_of (from_size least text) (nat_le (length text / 2) most) up in
+    let even : length text % 2 ≡ 0 = grind (arith, common_steps, first_of (length text % 2 == 0) (nat_le least (length text / 2)) low) in
+    let least_is : least ≤ length text / 2 = grind (arith, common_steps, second_of (length text % 2 == 0) (nat_le least (length text / 2)) low) in
+    let most_is : length text / 2 ≤ most = grind (arith, common_steps, second_of (from_size least text) (nat_le (length text / 2) most) up) in
+    let some = bytes_in text (second_of (of_size least most text) (list_all (has Hex) text) h) even in
+    let twice : length text ≡ length some.0 + length some.0 = some.2 in
+    (some.0, some.1, omega arith, omega arith, some.3)
+
+bytes_by : (least most : ℕ) (bytes : List ℕ) → are_bytes bytes ≡ true → least ≤ length bytes → length bytes ≤ most → of_bytes least most (flat_map hex_text bytes) ≡ true
+bytes_by least most bytes h l m =
+    let text = flat_map hex_text bytes in
+    let twice : length text ≡ length bytes + length bytes = digits_of bytes in
+    and_both (of_size least most text) (list_all (has Hex) text)
+    (and_both (from_size least text) (nat_le (length text / 2) most)
+    (and_both (length text % 2 == 0) (nat_le least (length text / 2)) (is_even (length text) (length bytes) twice) (at_most least (length text / 2) (omega arith)))
+    (at_most (length text / 2) most (omega arith)))
+    (all_hex bytes h)
+
+bytes_have : (least most : ℕ) (text : List ℕ) → AreBytes least most text → of_bytes least most text ≡ true
+bytes_have least most text h = ap (of_bytes least most) h.4 ∙ bytes_by least most h.0 h.1 h.2 h.3
+
 -- ---- values
 
 value_found : (v : Value) (text : List ℕ) → is_value v text ≡ true → IsValue v text
@@ -116,11 +222,12 @@ value_found value.Switch text h =
     (λ k. inr (either (bytes_eq text (codes "off")) (bytes_eq text (codes "-")) k (λ n. inl (same_text text (codes "off") n)) (λ n. inr (same_text text (codes "-") n))))
 value_found value.Physical text h = dashed_found physical_parts refl text h
 value_found value.Byte text h = dashed_found (One Hex ∷ One Hex ∷ []) refl text h
-value_found value.Number text h = dashed_found number_parts refl text h
-value_found value.Hex text h = dashed_found (One Hex ∷ One Hex ∷ Many Hex ∷ []) refl text h
+value_found (value.Number most) text h = numbered_found most text h
+value_found (value.Bytes least most) text h =
+    either (of_bytes least most text) (is_dash text) h (λ k. inl (bytes_found least most text k)) (λ k. inr (same_text text (codes "-") k))
 value_found value.Note text h = dashed_found note_parts refl text h
 value_found value.Nibble text h = dashed_found (One Hex ∷ []) refl text h
-value_found value.Count text h = text_found number_parts refl text h
+value_found (value.Count most) text h = number_found most text h
 
 switch_has : (text : List ℕ) → IsValue value.Switch text → is_value value.Switch text ≡ true
 switch_has text (inl h) = or_left (bytes_eq text (codes "on")) (bytes_eq text (codes "off") || bytes_eq text (codes "-")) (text_itself text (codes "on") h)
@@ -131,15 +238,40 @@ switch_has text (inr (inr h)) =
     or_right (bytes_eq text (codes "on")) (bytes_eq text (codes "off") || bytes_eq text (codes "-"))
     (or_right (bytes_eq text (codes "off")) (bytes_eq text (codes "-")) (text_itself text (codes "-") h))
 
-value_has : (v : Value) (text : List ℕ) → IsValue v text → is_value v text ≡ true
-value_has value.Switch text h = switch_has text h
-value_has value.Physical text h = dashed_have physical_parts refl text h
-value_has value.Byte text h = dashed_have (One Hex ∷ One Hex ∷ []) refl text h
-value_has value.Number text h = dashed_have number_parts refl text h
-value_has value.Hex text h = dashed_have (One Hex ∷ One Hex ∷ Many Hex ∷ []) refl text h
-value_has value.Note text h = dashed_have note_parts refl text h
-value_has value.Nibble text h = dashed_have (One Hex ∷ []) refl text h
-value_has value.Count text h = text_have number_parts refl text h
+-- a number of a value is one of 64 bits
+abbrev IsInWord : Value → Type 0
+IsInWord (value.Number most) = most < 2 ^ 64
+IsInWord (value.Count most) = most < 2 ^ 64
+IsInWord _ = Unit {0}
+
+value_has : (v : Value) → IsInWord v → (text : List ℕ) → IsValue v text → is_value v text ≡ true
+value_has value.Switch small text h = switch_has text h
+value_has value.Physical small text h = dashed_have physical_parts refl text h
+value_has value.Byte small text h = dashed_have (One Hex ∷ One Hex ∷ []) refl text h
+value_has (value.Number most) small text h = numbered_has most small text h
+value_has (value.Bytes least most) small text (inl h) = or_left (of_bytes least most text) (is_dash text) (bytes_have least most text h)
+value_has (value.Bytes least most) small text (inr h) = or_right (of_bytes least most text) (is_dash text) (text_itself text (codes "-") h)
+value_has value.Note small text h = dashed_have note_parts refl text h
+value_has value.Nibble small text h = dashed_have (One Hex ∷ []) refl text h
+value_has (value.Count most) small text h = number_has most small text h
+
+fits_word : (field : StateField) → IsInWord (value_of field)
+fits_word Active = tt
+fits_word Path = tt
+fits_word Deck = tt
+fits_word Menu = tt
+fits_word Audio = tt
+fits_word Volume = omega arith
+fits_word Mute = tt
+fits_word Arc = tt
+fits_word Selected = omega arith
+fits_word Language = tt
+fits_word Osd = tt
+fits_word Held = tt
+fits_word Heard = tt
+fits_word Sub = tt
+fits_word Queue = omega arith
+fits_word Dropped = omega arith
 
 -- ---- fields
 
@@ -190,7 +322,7 @@ field_found word h =
 
 field_has : (word : List ℕ) → IsField word → list_any (is_of_field word) fields ≡ true
 field_has word h =
-    is_any word h.0 (ap (by_front (key h.0) (is_value (value_of h.0))) h.2 ∙ front_has (key h.0) (is_value (value_of h.0)) h.1 (value_has (value_of h.0) h.1 h.3))
+    is_any word h.0 (ap (by_front (key h.0) (is_value (value_of h.0))) h.2 ∙ front_has (key h.0) (is_value (value_of h.0)) h.1 (value_has (value_of h.0) (fits_word h.0) h.1 h.3))
 
 -- ---- words without a key
 
@@ -211,21 +343,20 @@ second_has second h = unit_has second h
 pair_found : (word : List ℕ) → is_pair word ≡ true → IsPair word
 pair_found [] h = absurd (true≢false (sym h))
 pair_found (x ∷ xs) h =
-    either (has Hex x && is_second xs) ((x == 45) && is_second xs) h
+    either (has Hex x && is_second xs) (bytes_eq (x ∷ xs) (codes "-+-")) h
     (λ k. let s = second_found xs (second_of (has Hex x) (is_second xs) k) in
-    (x ∷ [], s.0, ap (λ t. x ∷ t) s.1, inl (x, [], first_of (has Hex x) (is_second xs) k, refl, refl), s.2))
-    (λ k. let s = second_found xs (second_of (x == 45) (is_second xs) k) in
-    (x ∷ [], s.0, ap (λ t. x ∷ t) s.1, inr (ap (λ y. y ∷ []) (same_byte x 45 (first_of (x == 45) (is_second xs) k))), s.2))
+    inl (x ∷ [], s.0, ap (λ t. x ∷ t) s.1, (x, [], first_of (has Hex x) (is_second xs) k, refl, refl), s.2))
+    (λ k. inr (same_text (x ∷ xs) (codes "-+-") k))
 
-pair_by : (first second : List ℕ) → IsUnit first → IsUnit second → is_pair (first ++ 43 ∷ second) ≡ true
-pair_by first second (inl h) k =
+pair_by : (first second : List ℕ) → IsTextOf (One Hex ∷ []) first → IsUnit second → is_pair (first ++ 43 ∷ second) ≡ true
+pair_by first second h k =
     let one : first ≡ h.0 ∷ [] = h.3 ∙ ap (λ t. h.0 ∷ t) h.4 in
     ap (λ t. is_pair (t ++ 43 ∷ second)) one
-    ∙ or_left (has Hex h.0 && is_second (43 ∷ second)) ((h.0 == 45) && is_second (43 ∷ second)) (and_both (has Hex h.0) (is_second (43 ∷ second)) h.2 (second_has second k))
-pair_by first second (inr h) k = ap (λ t. is_pair (t ++ 43 ∷ second)) h ∙ second_has second k
+    ∙ or_left (has Hex h.0 && is_second (43 ∷ second)) (bytes_eq (h.0 ∷ 43 ∷ second) (codes "-+-")) (and_both (has Hex h.0) (is_second (43 ∷ second)) h.2 (second_has second k))
 
 pair_has : (word : List ℕ) → IsPair word → is_pair word ≡ true
-pair_has word h = ap is_pair h.2 ∙ pair_by h.0 h.1 h.3 h.4
+pair_has word (inl h) = ap is_pair h.2 ∙ pair_by h.0 h.1 h.3 h.4
+pair_has word (inr h) = ap is_pair h
 
 kind_found : (word : List ℕ) (found : Option Kind) → kind_named word ≡ found → is_some found ≡ true → (kind : Kind) × (word ≡ kind_word kind)
 kind_found word None e h = absurd (true≢false (sym h))

@@ -1,10 +1,12 @@
 -- How it is found whether a word is one of a state line (own).
-use Rattle.std.specs.Prelude.{ℕ, ◌+◌, ◌==◌, ◌&&◌, ◌||◌, Bool, true, false, if◌then◌else◌, codes, List, [], ◌∷◌, Option, Some, None, is_some}
+use Rattle.std.specs.Prelude.{ℕ, ◌+◌, ◌==◌, ◌%◌, ◌/◌, nat_le, length, ◌&&◌, ◌||◌, Bool, true, false, if◌then◌else◌, codes, List, [], ◌∷◌, Option, Some, None, is_some}
+use Rattle.std.specs.Fmt.{decimal}
 use Rattle.std.specs.Str.{bytes_eq}
-use Rattle.std.specs.List.{list_any}
+use Rattle.std.specs.List.{list_all, list_any}
 use Rattle.text_core.specs.Kind.{kind_named}
+use Rattle.text_core.specs.Number.{number_of}
 use Rattle.expect_text.specs.Parts.{has}
-use Rattle.expect_text.specs.StateWords.{key, note_parts, number_parts, physical_parts, value_of}
+use Rattle.expect_text.specs.StateWords.{key, note_parts, physical_parts, value_of}
 use Rattle.expect_text.specs.declared.part.PatternPart.{PatternPart}
 use Rattle.expect_text.specs.declared.part.PatternPart.TheVariants.{Byte, One, Many, Word, Unworded, Opcode}
 use Rattle.expect_text.specs.declared.part.Class.TheVariants.{Hex}
@@ -46,15 +48,27 @@ is_dash text = bytes_eq text (codes "-")
 abbrev pub is_text_or_dash : List PatternPart → List ℕ → Bool
 is_text_or_dash parts text = is_text parts text || is_dash text
 
+-- a number up to this one, read and written again
+abbrev pub number_by : ℕ → List ℕ → Option ℕ → Bool
+number_by most text None = false
+number_by most text (Some n) = nat_le n most && bytes_eq (decimal n) text
+
+abbrev pub is_number : ℕ → List ℕ → Bool
+is_number most text = number_by most text (number_of text)
+
+-- from so many bytes to so many, two hex digits each
+abbrev pub of_bytes : ℕ → ℕ → List ℕ → Bool
+of_bytes least most text = (length text % 2 == 0) && nat_le least (length text / 2) && nat_le (length text / 2) most && list_all (has Hex) text
+
 abbrev pub is_value : Value → List ℕ → Bool
 is_value value.Switch text = bytes_eq text (codes "on") || (bytes_eq text (codes "off") || is_dash text)
 is_value value.Physical text = is_text_or_dash physical_parts text
 is_value value.Byte text = is_text_or_dash (One Hex ∷ One Hex ∷ []) text
-is_value value.Number text = is_text_or_dash number_parts text
-is_value value.Hex text = is_text_or_dash (One Hex ∷ One Hex ∷ Many Hex ∷ []) text
+is_value (value.Number most) text = is_number most text || is_dash text
+is_value (value.Bytes least most) text = of_bytes least most text || is_dash text
 is_value value.Note text = is_text_or_dash note_parts text
 is_value value.Nibble text = is_text_or_dash (One Hex ∷ []) text
-is_value value.Count text = is_text number_parts text
+is_value (value.Count most) text = is_number most text
 
 -- a text, and then the rest
 abbrev pub by_front : List ℕ → (List ℕ → Bool) → List ℕ → Bool
@@ -71,9 +85,9 @@ is_of_field word field = by_front (key field) (is_value (value_of field)) word
 abbrev pub is_second : List ℕ → Bool
 is_second text = by_one (λ x. x == 43) (is_text_or_dash (One Hex ∷ [])) text
 
--- two addresses, or none in the place of each
+-- two addresses, the first alone, or neither
 abbrev pub is_pair : List ℕ → Bool
-is_pair word = by_one (has Hex) is_second word || by_one (λ x. x == 45) is_second word
+is_pair word = by_one (has Hex) is_second word || bytes_eq word (codes "-+-")
 
 abbrev pub is_bare : List ℕ → Bool
 is_bare word =

@@ -1,12 +1,16 @@
--- The words that a device's state line can have after the device's name (own), whatever the device and its kind. How many digits a
--- number has, and whether they are of a value that the device can have, is not looked at.
-use Rattle.std.specs.Prelude.{◌≡◌, ℕ, ◌⊎◌, codes, List, [], ◌∷◌, ◌++◌}
+-- The words that a device's state line can have after the device's name (own), whatever the device and its kind: each value that a
+-- record can have, as it is written.
+use Rattle.std.specs.Prelude.{◌≡◌, ℕ, ◌≤◌, ◌⊎◌, codes, length, true, List, [], ◌∷◌, ◌++◌}
+use Rattle.std.specs.Fmt.{decimal}
+use Rattle.std.specs.List.{flat_map}
+use Rattle.text_core.specs.Bytes.{are_bytes}
 use Rattle.text_core.specs.Kind.{kind_word}
+use Rattle.text_core.specs.Piece.{hex_text}
 use Rattle.text_core.specs.declared.kind.Kind.{Kind}
 use Rattle.expect_text.specs.Parts.{IsTextOf}
 use Rattle.expect_text.specs.declared.part.PatternPart.{PatternPart}
-use Rattle.expect_text.specs.declared.part.PatternPart.TheVariants.{Byte, One, Many}
-use Rattle.expect_text.specs.declared.part.Class.TheVariants.{Digit, Hex}
+use Rattle.expect_text.specs.declared.part.PatternPart.TheVariants.{Byte, One}
+use Rattle.expect_text.specs.declared.part.Class.TheVariants.{Hex}
 use Rattle.expect_text.specs.declared.state_words.StateField.{StateField}
 use Rattle.expect_text.specs.declared.state_words.StateField.TheVariants.{Active, Path, Deck, Menu, Audio, Volume, Mute, Arc, Selected, Language, Osd, Held, Heard, Sub, Queue, Dropped}
 use Rattle.expect_text.specs.declared.state_words.Value.{Value}
@@ -20,22 +24,27 @@ physical_parts = One Hex ∷ Byte 46 ∷ One Hex ∷ Byte 46 ∷ One Hex ∷ Byt
 abbrev pub note_parts : List PatternPart
 note_parts = One Hex ∷ Byte 58 ∷ One Hex ∷ One Hex ∷ Byte 58 ∷ One Hex ∷ One Hex ∷ []
 
-abbrev pub number_parts : List PatternPart
-number_parts = One Digit ∷ Many Digit ∷ []
-
 -- what stands for no value
 abbrev pub IsDash : List ℕ → Type 0
 IsDash text = text ≡ codes "-"
+
+-- a number up to this one
+abbrev pub IsNumber : ℕ → List ℕ → Type 0
+IsNumber most text = (n : ℕ) × (n ≤ most) × (text ≡ decimal n)
+
+-- from so many bytes to so many
+abbrev pub AreBytes : ℕ → ℕ → List ℕ → Type 0
+AreBytes least most text = (bytes : List ℕ) × (are_bytes bytes ≡ true) × (least ≤ length bytes) × (length bytes ≤ most) × (text ≡ flat_map hex_text bytes)
 
 abbrev pub IsValue : Value → List ℕ → Type 0
 IsValue value.Switch text = (text ≡ codes "on") ⊎ ((text ≡ codes "off") ⊎ IsDash text)
 IsValue value.Physical text = IsTextOf physical_parts text ⊎ IsDash text
 IsValue value.Byte text = IsTextOf (One Hex ∷ One Hex ∷ []) text ⊎ IsDash text
-IsValue value.Number text = IsTextOf number_parts text ⊎ IsDash text
-IsValue value.Hex text = IsTextOf (One Hex ∷ One Hex ∷ Many Hex ∷ []) text ⊎ IsDash text
+IsValue (value.Number most) text = IsNumber most text ⊎ IsDash text
+IsValue (value.Bytes least most) text = AreBytes least most text ⊎ IsDash text
 IsValue value.Note text = IsTextOf note_parts text ⊎ IsDash text
 IsValue value.Nibble text = IsTextOf (One Hex ∷ []) text ⊎ IsDash text
-IsValue value.Count text = IsTextOf number_parts text
+IsValue (value.Count most) text = IsNumber most text
 
 -- ---- fields
 
@@ -63,29 +72,30 @@ value_of Path = value.Physical
 value_of Deck = value.Byte
 value_of Menu = value.Switch
 value_of Audio = value.Switch
-value_of Volume = value.Number
+value_of Volume = value.Number 100
 value_of Mute = value.Switch
 value_of Arc = value.Switch
-value_of Selected = value.Number
-value_of Language = value.Hex
-value_of Osd = value.Hex
+value_of Selected = value.Number 15
+value_of Language = value.Bytes 3 3
+value_of Osd = value.Bytes 1 16
 value_of Held = value.Byte
 value_of Heard = value.Note
 value_of Sub = value.Nibble
-value_of Queue = value.Count
-value_of Dropped = value.Count
+value_of Queue = value.Count 16
+value_of Dropped = value.Count 18446744073709551615
 
 abbrev pub IsField : List ℕ → Type 0
 IsField word = (field : StateField) × (text : List ℕ) × (word ≡ key field ++ text) × IsValue (value_of field) text
 
 -- ---- words without a key
 
--- one of two logical addresses, or none
+-- a logical address, or none
 abbrev pub IsUnit : List ℕ → Type 0
 IsUnit text = IsTextOf (One Hex ∷ []) text ⊎ IsDash text
 
+-- those of two units, of which the second one settles last
 abbrev pub IsPair : List ℕ → Type 0
-IsPair word = (first second : List ℕ) × (word ≡ first ++ 43 ∷ second) × IsUnit first × IsUnit second
+IsPair word = ((first second : List ℕ) × (word ≡ first ++ 43 ∷ second) × IsTextOf (One Hex ∷ []) first × IsUnit second) ⊎ (word ≡ codes "-+-")
 
 -- the power, a kind, logical addresses, or a physical address
 abbrev pub IsBare : List ℕ → Type 0

@@ -33,4 +33,4 @@ pub use part::Judged;
 pub use pattern::fits;
 pub use range::RangeCause;
 pub use said::is_said;
-pub use state_words::is_state_word;
+pub use state_words::{StateField, is_state_word};

@@ -1,16 +1,36 @@
 //! The words that a device's state line can have.
 ghost use Rattle.std.specs.Prelude.{◌≡◌, ◌+◌, ◌<◌, ◌≤◌, ◌^◌, IfSome};
-ghost use Rattle.std.specs.List.{list_any};
+ghost use Rattle.std.specs.List.{list_all, list_any};
 ghost use Rattle.text_core.specs.Words.{words_of};
+ghost use Rattle.expect_text.specs.Parts.{has};
+ghost use Rattle.expect_text.specs.declared.part.Class.TheVariants.{Hex};
 ghost use Rattle.expect_text.specs.StateWords.{key, value_of};
-ghost use Rattle.expect_text.specs.StateTest.{by_front, fields, is_bare, is_dash, is_of_field, is_pair, is_second, is_state_word, is_text, is_text_or_dash, is_value, strange_from, strange_word};
+ghost use Rattle.expect_text.specs.StateTest.{by_front, fields, is_bare, is_dash, is_number, is_of_field, is_pair, is_second, is_state_word, is_text, is_text_or_dash, is_value, of_bytes, strange_from, strange_word};
 
 use crate::part::{Class, PatternPart, has};
-use text_core::{Kind, first_word};
+use text_core::{Kind, first_word, number_in};
+
+/// The loudest volume.
+const VOLUME_MOST: u64 = 100;
+
+/// The greatest number of a port.
+const PORT_MOST: u64 = 15;
+
+/// How many bytes the code of a language has (CEC 17, ISO 639-2).
+const LANGUAGE_BYTES: usize = 3;
+
+/// The most bytes of a text on the screen that a device keeps.
+const OSD_BYTES: usize = 16;
+
+/// The most frames that wait in a device.
+const QUEUE_MOST: u64 = 16;
+
+/// The most frames that a device counts as dropped.
+const DROPPED_MOST: u64 = u64::MAX;
 
 /// A field of a state line: a key with its value.
 #[derive(Clone, Copy, Debug, PartialEq, Eq)]
-pub(crate) enum StateField {
+pub enum StateField {
     Active,
     Path,
     Deck,
@@ -38,16 +58,16 @@ pub(crate) enum Value {
     Physical,
     /// Two hex digits.
     Byte,
-    /// A decimal number.
-    Number,
-    /// Pairs of hex digits.
-    Hex,
+    /// A decimal number up to this one.
+    Number(u64),
+    /// Bytes in hex, so many at least and so many at most.
+    Bytes(usize, usize),
     /// An initiator, an opcode and its first operand.
     Note,
     /// A hex digit.
     Nibble,
-    /// A decimal number, never `-`.
-    Count,
+    /// A decimal number up to this one, never `-`.
+    Count(u64),
 }
 
 const PHYSICAL: &[PatternPart] = &[
@@ -70,20 +90,9 @@ const NOTE: &[PatternPart] = &[
     PatternPart::One(Class::Hex),
 ];
 
-const NUMBER: &[PatternPart] = &[
-    PatternPart::One(Class::Digit),
-    PatternPart::Many(Class::Digit),
-];
-
 const NIBBLE: &[PatternPart] = &[PatternPart::One(Class::Hex)];
 
 const BYTE: &[PatternPart] = &[PatternPart::One(Class::Hex), PatternPart::One(Class::Hex)];
-
-const HEX: &[PatternPart] = &[
-    PatternPart::One(Class::Hex),
-    PatternPart::One(Class::Hex),
-    PatternPart::Many(Class::Hex),
-];
 
 impl StateField {
     const ALL: &'static [StateField] = &[
@@ -136,11 +145,14 @@ impl StateField {
             StateField::Deck | StateField::Held => Value::Byte,
             StateField::Menu | StateField::Audio | StateField::Mute | StateField::Arc =>
                 Value::Switch,
-            StateField::Volume | StateField::Selected => Value::Number,
-            StateField::Language | StateField::Osd => Value::Hex,
+            StateField::Volume => Value::Number(VOLUME_MOST),
+            StateField::Selected => Value::Number(PORT_MOST),
+            StateField::Language => Value::Bytes(LANGUAGE_BYTES, LANGUAGE_BYTES),
+            StateField::Osd => Value::Bytes(1, OSD_BYTES),
             StateField::Heard => Value::Note,
             StateField::Sub => Value::Nibble,
-            StateField::Queue | StateField::Dropped => Value::Count,
+            StateField::Queue => Value::Count(QUEUE_MOST),
+            StateField::Dropped => Value::Count(DROPPED_MOST),
         }
     }
 }
@@ -183,6 +195,37 @@ fn is_text_or_dash(parts: &[PatternPart], text: &[u8]) -> bool
     is_text(parts, text) || is_dash(text)
 }
 
+// Whether a text is a number up to this one, as it is written.
+fn is_number(most: u64, text: &[u8]) -> bool
+    ensures { result ≡ is_number most text.now }
+{
+    match number_in(text) {
+        None => false,
+        Some(number) => {
+            let mut digits = itoa::Buffer::new();
+            number <= most && digits.format(number).as_bytes() == text
+        }
+    }
+}
+
+// Whether each byte of a text is a hex digit.
+fn is_hex(text: &[u8]) -> bool
+    ensures { result ≡ list_all (has Hex) text.now }
+{
+    match text {
+        [] => true,
+        [byte, rest @ ..] => has(Class::Hex, *byte) && is_hex(rest),
+    }
+}
+
+// Whether a text is from so many to so many bytes in hex.
+fn of_bytes(least: usize, most: usize, text: &[u8]) -> bool
+    ensures { result ≡ of_bytes least most text.now }
+{
+    let count = text.len() / 2;
+    text.len() % 2 == 0 && least <= count && count <= most && is_hex(text)
+}
+
 fn is_value(value: Value, text: &[u8]) -> bool
     ensures { result ≡ is_value value text.now }
 {
@@ -190,11 +233,11 @@ fn is_value(value: Value, text: &[u8]) -> bool
         Value::Switch => text == b"on".as_slice() || text == b"off".as_slice() || is_dash(text),
         Value::Physical => is_text_or_dash(PHYSICAL, text),
         Value::Byte => is_text_or_dash(BYTE, text),
-        Value::Number => is_text_or_dash(NUMBER, text),
-        Value::Hex => is_text_or_dash(HEX, text),
+        Value::Number(most) => is_number(most, text) || is_dash(text),
+        Value::Bytes(least, most) => of_bytes(least, most, text) || is_dash(text),
         Value::Note => is_text_or_dash(NOTE, text),
         Value::Nibble => is_text_or_dash(NIBBLE, text),
-        Value::Count => is_text(NUMBER, text),
+        Value::Count(most) => is_number(most, text),
     }
 }
 
@@ -243,13 +286,14 @@ fn is_second(text: &[u8]) -> bool
     }
 }
 
+// The second unit of a box polls only after the first one has settled.
 fn is_pair(word: &[u8]) -> bool
     ensures { result ≡ is_pair word.now }
 {
     match word {
         [] => false,
         [byte, rest @ ..] => {
-            (has(Class::Hex, *byte) && is_second(rest)) || (*byte == b'-' && is_second(rest))
+            (has(Class::Hex, *byte) && is_second(rest)) || word == b"-+-".as_slice()
         }
     }
 }

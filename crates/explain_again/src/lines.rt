@@ -5,6 +5,7 @@ use edid_texts::{TextError, parse_text};
 use explain_marks::is_line_end;
 use message_lay::{LayError, lay_lines};
 use message_text::{assemble, frame_word};
+use record_core::Form;
 use std::alloc::{AllocError, Global};
 use text_core::Writes;
 
@@ -22,7 +23,7 @@ pub fn of_laid(alloc: Global, changed: Changed<'_>) -> Result<Option<usize>, All
     let mut room = [0u8; 1];
     // The pulls have no place to go: once all lines are read, nothing more is done.
     let mut out = Writes::new(room.as_mut_slice());
-    match lay_lines(&text, &mut out) {
+    match lay_lines(&text, Form::Text, &mut out) {
         Ok(()) | Err(LayError::Write(_)) => Ok(None),
         Err(LayError::Line(fault)) => Ok(word_of(changed.number_in_part(), fault.line, fault.word)),
     }

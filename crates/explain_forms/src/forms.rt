@@ -17,7 +17,7 @@ use room_script::{ScriptCause, TopologyCause};
 
 /// What the words of a state are.
 const STATE_WORDS: &str =
-    "WORD is one of a state line after the device's name: a kind, logical addresses, a physical address, `on` or `standby`, or KEY=VALUE as `active=1.0.0.0`, `path=-`, `deck=20`, `menu=off`, `audio=on`, `volume=20`, `mute=off`, `arc=off`, `sel=1`, `lang=656e67`, `osd=5456`, `held=41`, `heard=4:90:00`, `sub=5`, `queue=0`, `dropped=0`";
+    "WORD is one of a state line after the device's name: a kind, logical addresses, a physical address, `on` or `standby`, or KEY=VALUE as `active=1.0.0.0`, `path=-`, `deck=1a`, `menu=off`, `audio=on`, `volume=20`, `mute=off`, `arc=off`, `sel=1`, `lang=656e67`, `osd=5456`, `held=41`, `heard=4:90:00`, `sub=5`, `queue=0`, `dropped=0`";
 
 /// The word that a line lacks.
 pub fn add_missing(draft: &mut Draft, word: Option<&str>) {

@@ -1,5 +1,6 @@
 //! What the program says of faults with `--explain`, and of command lines that are refused.
 use program_calls::program::program;
+use program_source::Shelf;
 use std::process::Abort;
 use text_core::Writes;
 
@@ -40,8 +41,13 @@ fn reported_of(rt: &(impl Abort + AllocGlobal), line: &str, mut input: &[u8]) ->
     let alloc = rt.alloc();
     let mut out = Vec::new(alloc);
     let mut err = Vec::new(alloc);
+    let files = Shelf {
+        files: &[],
+        is_typed: false,
+    };
     let status = program(
         alloc,
+        &files,
         words(rt, line),
         &mut input,
         Writes::new(&mut out),

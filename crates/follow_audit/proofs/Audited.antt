@@ -11,15 +11,10 @@ use Rattle.line_reading.specs.Readings.{Listed}
 use Rattle.line_reading.specs.Reports.{listed_as}
 use Rattle.audit_widths.specs.declared.low.Low.{Low}
 use Rattle.audit_widths.specs.Lows.{gone_to}
-use Rattle.audit_widths.specs.Misfits.{drive_within}
-use Rattle.audit_widths.specs.Spreads.{no_widths, with_slots}
 use Rattle.capture_monitor.specs.Watch.{listed_line}
-use Rattle.audit_remarks.specs.Attempts.{failure_of, tries_again}
-use Rattle.audit_remarks.specs.Frames.{delivered_frame}
-use Rattle.audit_remarks.specs.Free.{free_before, too_soon}
-use Rattle.audit_remarks.specs.Series.{series_over}
-use Rattle.audit_core.specs.Audit.{Tape, after, after_all, audit_text_of, drive_of, first_tape, frame_text, line_and_remarks, lows_of, notes_text, reading_misfits, remarks_text, reported_all, summary_text, tape_after, tape_at, tape_by, unfinished_of}
-use Rattle.audit_core.specs.Lines.{answers_text, drive_text, failure_text, series_text, soon_text, timing_text, unfinished_text, within_text}
+use Rattle.record_core.specs.declared.cell.Form.TheVariants.{Text}
+use Rattle.audit_notes.specs.Lines.{lines_text}
+use Rattle.audit_core.specs.Audit.{Tape, after, after_all, audit_text_of, drive_of, first_tape, line_and_remarks, lows_of, remarks_by, remarks_text, reported_all, summary_text, tape_after, tape_at, tape_by}
 use Rattle.text_core.specs.Adds.{Adds, Tally}
 use Rattle.text_core.proofs.Adding.{nothing, then}
 use Rattle.audit_core.specs.declared.auditor.Auditor.{Auditor}
@@ -43,13 +38,7 @@ reported_more timing t (x ∷ xs) ys =
 -- ---- what there is to remark, by its low stretches and its low drive
 
 abbrev said_by : Bool → Tape → Listed → List Low → Option ℕ → List ℕ
-said_by timing t x lows drive =
-    notes_text x
-    ++ (series_text (series_over t.series x.reported.ending) ++ answers_text x.begin (delivered_frame x) t.waiting
-    ++ soon_text (too_soon t.previous x (tries_again t.attempts x.reported.bits)) ++ reading_misfits t.series x lows ++ drive_text drive
-    ++ within_text (drive_within lows) ++ unfinished_text (unfinished_of x lows)
-    ++ failure_text (failure_of t.attempts x.begin (free_before t.previous x.begin) x.reported.bits))
-    ++ frame_text t (delivered_frame x) ++ timing_text timing (with_slots x.reported.ending x.reported.bits 0 lows no_widths)
+said_by timing t x lows drive = lines_text Text (remarks_by timing t x lows drive)
 
 same_remarks : (timing : Bool) (a : Auditor) (x : Listed) (p q : List Edge) → lows_of x q ≡ lows_of x p → drive_of x q ≡ drive_of x p → remarks_text timing (tape_at q a) x ≡ remarks_text timing (tape_at p a) x
 same_remarks timing a x p q lows drive = ap₂ (λ (ls : List Low) (d : Option ℕ). said_by timing (tape_at [] a) x ls d) lows drive

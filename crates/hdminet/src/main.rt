@@ -4,6 +4,7 @@
 
 use program_calls::program::program;
 use program_calls::{ProgramFault, write_fault};
+use program_source::Disk;
 use std::env;
 use std::process::ExitCode;
 use text_core::Writes;
@@ -19,7 +20,15 @@ fn main(rt: HostRuntime) -> ExitCode {
     let status = match words(&rt) {
         Ok(words) => {
             let out = Writes::new(rt.stdout());
-            program(rt.alloc(), words, &mut input, out, &mut err).status
+            program(
+                rt.alloc(),
+                &Disk { rt: &rt },
+                words,
+                &mut input,
+                out,
+                &mut err,
+            )
+            .status
         }
         Err(fault) => write_fault(&fault, &mut err),
     };

@@ -9,3 +9,4 @@ mod frames;
 mod readings;
 mod receiver;
 mod sender;
+mod version;

@@ -12,6 +12,7 @@ use device_core::Device;
 use edid_core::Edid;
 use edid_tree::Tree;
 use line_rounds::Outcome;
+use record_core::Form;
 use room_run::AppliedEvent;
 use room_trace::{add_event, add_last_lines, add_new_ports, add_round};
 use text_core::{Counted, Sink, WriteFault};
@@ -29,8 +30,14 @@ pub fn write_event<S: Sink>(
         (event_line applied.now.at applied.now.event.now.line applied.now.refused ++ port_lines applied.now.at edid.now (λ device. slice_index_or applied.now.was.now device false) tree.now) result }
 {
     let mut text = Counted::new(out);
-    add_event(&mut text, applied.at, applied.event.line, applied.refused);
-    add_new_ports(&mut text, applied.at, edid, tree, applied.was);
+    add_event(
+        &mut text,
+        Form::Text,
+        applied.at,
+        applied.event.line,
+        applied.refused,
+    );
+    add_new_ports(&mut text, Form::Text, applied.at, edid, tree, applied.was);
     let written = text.written();
     // No effect at run time. The proof reads what `out` holds from the sink that comes back.
     let _below = text.into_sink();
@@ -46,7 +53,7 @@ pub fn write_round<S: Sink>(
     ensures { WrittenText (S.contents out.old) (S.contents out.new) (S.is_stuck out.old) (S.is_stuck out.new) (round_line devices.now outcome.now) result }
 {
     let mut text = Counted::new(out);
-    add_round(&mut text, devices, outcome);
+    add_round(&mut text, Form::Text, devices, outcome);
     let written = text.written();
     // No effect at run time. The proof reads what `out` holds from the sink that comes back.
     let _below = text.into_sink();
@@ -62,7 +69,7 @@ pub fn write_last_lines<S: Sink>(
     ensures { WrittenText (S.contents out.old) (S.contents out.new) (S.is_stuck out.old) (S.is_stuck out.new) (flat_map state_line devices.now ++ end_line end) result }
 {
     let mut text = Counted::new(out);
-    add_last_lines(&mut text, devices, end);
+    add_last_lines(&mut text, Form::Text, devices, end);
     let written = text.written();
     // No effect at run time. The proof reads what `out` holds from the sink that comes back.
     let _below = text.into_sink();

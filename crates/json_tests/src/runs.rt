@@ -1,9 +1,11 @@
 //! The objects of a run, which are written while it runs, beside those of its trace once it is there.
 use crate::objects::{Narrow, holds};
 use json_room::{RoomLines, write_room_objects};
-use json_run::emulate_objects;
-use json_trace::{LineObjects, PlainLines, write_objects};
+use json_run::emulate_objects as emulate_room;
+use json_trace::{LineObjects, write_objects};
+use room_run::Totals;
 use room_run::emulate::{EmulateError, emulate};
+use room_run::objects::emulate_objects;
 use std::process::Abort;
 use text_core::Writes;
 
@@ -33,8 +35,31 @@ fn trace(rt: &(impl Abort + AllocGlobal)) -> Vec<u8> {
     out
 }
 
-/// What is written while it runs, by a writer with this much room, and the count of its fault.
-fn written<L: LineObjects + Drop>(
+/// The count of the fault by which a run was cut off.
+fn fault_of(ran: Result<Totals, EmulateError>) -> Option<u128> {
+    match ran {
+        Err(EmulateError::Write(count)) => Some(count),
+        _ => None,
+    }
+}
+
+/// What is written of a run while it goes on, by a writer with this much room, and the count of its fault.
+fn written(rt: &(impl Abort + AllocGlobal), script: &str, room: usize) -> (Vec<u8>, Option<u128>) {
+    let mut out = Narrow {
+        bytes: Vec::new(rt.alloc()),
+        room,
+    };
+    let ran = emulate_objects(
+        rt.alloc(),
+        TOPOLOGY.as_bytes(),
+        script.as_bytes(),
+        &mut Writes::new(&mut out),
+    );
+    (out.bytes, fault_of(ran))
+}
+
+/// The same with its room.
+fn written_with<L: LineObjects + Drop>(
     rt: &(impl Abort + AllocGlobal),
     script: &str,
     lines: L,
@@ -44,18 +69,14 @@ fn written<L: LineObjects + Drop>(
         bytes: Vec::new(rt.alloc()),
         room,
     };
-    let ran = emulate_objects(
+    let ran = emulate_room(
         rt.alloc(),
         TOPOLOGY.as_bytes(),
         script.as_bytes(),
         lines,
         &mut Writes::new(&mut out),
     );
-    let fault = match ran {
-        Err(EmulateError::Write(count)) => Some(count),
-        _ => None,
-    };
-    (out.bytes, fault)
+    (out.bytes, fault_of(ran))
 }
 
 /// All is written where there is room for it, and else the front that fits, whose length is the count of the fault.
@@ -80,7 +101,7 @@ fn objects_of_a_run(rt: HostRuntime) {
         want.len().saturating_sub(1),
         want.len(),
     ] {
-        let (out, fault) = written(&rt, SCRIPT, PlainLines, room);
+        let (out, fault) = written(&rt, SCRIPT, room);
         holds(&rt, is_front(&want, room, &out, fault), "objects of a run");
     }
 }
@@ -105,7 +126,7 @@ fn objects_of_a_run_and_its_room(rt: HostRuntime) {
         want.len(),
     ] {
         let lines = RoomLines::new(TOPOLOGY.as_bytes(), SCRIPT.as_bytes());
-        let (out, fault) = written(&rt, SCRIPT, lines, room);
+        let (out, fault) = written_with(&rt, SCRIPT, lines, room);
         holds(&rt, is_front(&want, room, &out, fault), "objects of a room");
     }
 }
@@ -114,6 +135,8 @@ fn objects_of_a_run_and_its_room(rt: HostRuntime) {
 fn a_refused_script_writes_nothing(rt: HostRuntime) {
     let script = "at 5 frob tv\nend 10\n";
     let lines = RoomLines::new(TOPOLOGY.as_bytes(), script.as_bytes());
-    let (out, fault) = written(&rt, script, lines, 1000);
+    let (out, fault) = written_with(&rt, script, lines, 1000);
+    holds(&rt, out.is_empty() && fault.is_none(), "nothing");
+    let (out, fault) = written(&rt, script, 1000);
     holds(&rt, out.is_empty() && fault.is_none(), "nothing");
 }

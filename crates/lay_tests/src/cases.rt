@@ -1,19 +1,25 @@
 //! Each row through the call that the program makes.
 use crate::rows::{LAID, REFUSED};
 use message_lay::{LayError, lay_lines};
+use record_core::Form;
 use std::process::Abort;
 use text_core::Writes;
 
 /// What is written of a text, or why nothing is, and the word at fault.
-fn reported(rt: &(impl Abort + AllocGlobal), text: &str) -> String {
+fn written(rt: &(impl Abort + AllocGlobal), text: &str, form: Form) -> String {
     let mut out = Vec::new(rt.alloc());
-    match lay_lines(text.as_bytes(), &mut Writes::new(&mut out)) {
+    match lay_lines(text.as_bytes(), form, &mut Writes::new(&mut out)) {
         Ok(()) => String::from_utf8(out).expect(rt, "a text"),
         Err(LayError::Line(fault)) => {
             format!(in rt.alloc(); "{fault} {}", fault.word).expect(rt, "a refusal")
         }
         Err(LayError::Write(fault)) => format!(in rt.alloc(); "{fault}").expect(rt, "a fault"),
     }
+}
+
+/// Its lines.
+fn reported(rt: &(impl Abort + AllocGlobal), text: &str) -> String {
+    written(rt, text, Form::Text)
 }
 
 fn holds(rt: &impl Abort, holds: bool, case: &str) {
@@ -37,6 +43,37 @@ fn frames_are_laid(rt: HostRuntime) {
         let (input, want) = row.split_once(" => ").expect(&rt, row);
         holds(&rt, reported(&rt, input) == pulls_text(&rt, want), row);
     }
+}
+
+/// The objects of those pulls.
+fn pull_objects(rt: &(impl Abort + AllocGlobal), pulls: &str) -> String {
+    let mut text = String::new(rt.alloc());
+    for pull in pulls.split(' ') {
+        let (from, width) = pull.split_once("/").expect(rt, pull);
+        let object = format!(in rt.alloc();
+            "{{\"line\":\"pull {from} {width}\",\"type\":\"pull\",\"at\":{from},\"width\":{width}}}\n"
+        ).expect(rt, pull);
+        text.push_str(&object).expect(rt, pull);
+    }
+    text
+}
+
+#[test]
+fn pulls_are_objects(rt: HostRuntime) {
+    for row in LAID.lines() {
+        let (input, want) = row.split_once(" => ").expect(&rt, row);
+        holds(
+            &rt,
+            written(&rt, input, Form::Json) == pull_objects(&rt, want),
+            row,
+        );
+    }
+    let text = "1000000 44\n";
+    holds(
+        &rt,
+        written(&rt, text, Form::Json) == reported(&rt, text),
+        text,
+    );
 }
 
 /// A line at fault is reported by its number, and nothing of the lines above it is written.

@@ -1,6 +1,6 @@
 -- A receiver, microsecond by microsecond: what it keeps of the line, and what each microsecond adds. The order
 -- of a reading is the standard's (CEC 5.2 and 6); windows, sampling instant and endings are this profile's own.
-use Rattle.std.specs.Prelude.{ℕ, zero, suc, ◌+◌, ◌==◌, Bool, not, nat_lt, ◌&&◌, if◌then◌else◌, List, [], ◌∷◌, ◌++◌, length, Option, Some, None}
+use Rattle.std.specs.Prelude.{ℕ, zero, suc, ◌+◌, ◌==◌, Bool, false, not, nat_lt, ◌&&◌, if◌then◌else◌, List, [], ◌∷◌, ◌++◌, length, Option, Some, None}
 use Rattle.line_wave.specs.Line.{Line, was_low}
 use Rattle.line_frames.specs.declared.Ending.{Ending}
 use Rattle.line_frames.specs.declared.Ending.TheVariants.{Short, Silent, BadStart}
@@ -124,3 +124,10 @@ hears low n = hears_with standard low n
 
 abbrev pub wake_of : Hears → Option ℕ
 wake_of = wake_of_by standard
+
+-- a receiver that stands so reports at t that the next fall did not come in time (CEC 5.2): the reading's last microsecond was
+-- the one before
+abbrev pub due_in : ReceiverState → ℕ → ℕ → ℕ → Bool
+due_in StartHigh begin fall t = t == begin + (standard.start_total.most + 1)
+due_in Sampled begin fall t = t == fall + (standard.bit_total.most + 1)
+due_in _ begin fall t = false

@@ -79,7 +79,7 @@ impl Receiver {
     ghost use Rattle.line_reading.specs.Reading.{last_ending};
     ghost use Rattle.line_reading.specs.Reports.{ends_with, listed_as, running_by};
     ghost use Rattle.line_frames.specs.declared.Ending.TheVariants.{Open};
-    ghost use Rattle.line_reading.specs.Hears.{heard_by, rest, starts, wake_of, hear_in, hear_in_by, hear_at_by, hear_start_low_by, hear_start_high_by, hear_unsampled, hear_sampled_by, sample_as, wake_of_by, reported_so};
+    ghost use Rattle.line_reading.specs.Hears.{heard_by, rest, starts, wake_of, hear_in, hear_in_by, hear_at_by, hear_start_low_by, hear_start_high_by, hear_unsampled, hear_sampled_by, sample_as, wake_of_by, reported_so, due_in};
     ghost use Rattle.line_reading.specs.Windows.{AreWindows};
 
     /// A receiver that has heard nothing of its line yet. It stands on the line that is never low, at each instant.
@@ -296,6 +296,18 @@ impl Receiver {
         ensures exact { result ≡ wake_of (heard_by self.now) }
     {
         self.wake(&STANDARD)
+    }
+
+    /// Whether the reading that runs ends at `t` where the line stays high until then, since the next fall did not come in time
+    /// (CEC 5.2).
+    pub fn is_due(&self, t: u64) -> bool
+        ensures { result ≡ due_in self.now.place self.now.begin self.now.fall t }
+    {
+        match self.place {
+            ReceiverState::StartHigh => t == self.begin + (STANDARD.start_total.most + 1),
+            ReceiverState::Sampled => t == self.fall + (STANDARD.bit_total.most + 1),
+            ReceiverState::Rest | ReceiverState::StartLow | ReceiverState::Unsampled => false,
+        }
     }
 
     // The same with these windows.

@@ -1,6 +1,6 @@
 //! Worked lines: what is laid, what is read, and what receivers and frames tell.
 use crate::frames::{order_text, part_text, received_text};
-use crate::receivers::{last_text, read_text, standing_text};
+use crate::receivers::{due_text, last_text, read_text, standing_text};
 use crate::senders::{pull_text, state_text};
 use crate::words::{bits_of, is_reported, number, stretches_of};
 use line_wave::{Pulls, Pulses, Stretch, Wave, lay};
@@ -78,6 +78,12 @@ stand 1000 4700 5500 6100 7000 7400 => Idle None 2
 last 1000 4700 => 5701 Ended(BadStart)
 stand 1000 4700 .5701 => Idle None 1
 stand 1000 4700 .5701 5701 => StartLow Some(9602) 1
+# A reading is due at one instant, where the fall that ends the start bit or a slot did not come in time.
+due => -
+due 1000 => -
+due 1000 4700 => 5701
+due 1000 4700 5500 => -
+due 1000 4700 5500 6100 .6550 => 8251
 # Image View On from 4 to 0, and Give Device Power Status from 5 to 0, sent together: 4 wins.
 order 50,8f 40,04 => false true [1]
 # A broadcast of four bytes.
@@ -174,6 +180,7 @@ fn reported(rt: &(impl Abort + AllocGlobal), asked: &str) -> String {
         "read" => read_text(rt, words),
         "last" => last_text(rt, words),
         "stand" => standing_text(rt, words),
+        "due" => due_text(rt, words),
         "order" => order_text(rt, words),
         "received" => received_text(rt, words),
         "pulls" => pull_text(rt, words),

@@ -154,3 +154,14 @@ pub(crate) fn standing_text(rt: &(impl Abort + AllocGlobal), words: &str) -> Str
     let (standing, wake) = (listener.receiver.standing(), listener.receiver.wakes_at());
     format!(in rt.alloc(); "{standing:?} {wake:?} {}", listener.count).expect(rt, "a text")
 }
+
+/// The instant at which its reading is due, where the next fall did not come in time: one about its next wake, or a dash.
+pub(crate) fn due_text(rt: &(impl Abort + AllocGlobal), words: &str) -> String {
+    let receiver = listener_of(rt, words).receiver;
+    let wake = receiver.wakes_at().unwrap_or(1);
+    let due = (wake.saturating_sub(1)..=wake.saturating_add(1)).find(|t| receiver.is_due(*t));
+    match due {
+        Some(at) => format!(in rt.alloc(); "{at}").expect(rt, "a text"),
+        None => format!(in rt.alloc(); "-").expect(rt, "a text"),
+    }
+}

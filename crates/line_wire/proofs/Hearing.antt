@@ -15,7 +15,7 @@ use Rattle.line_reading.specs.declared.receiver.Told.{Told}
 use Rattle.line_reading.specs.declared.receiver.Told.TheVariants.{Nothing, Bit, Last, Ended}
 use Rattle.line_reading.specs.declared.sender.Sender.{Sender}
 use Rattle.line_reading.specs.Follows.{StandsOn}
-use Rattle.line_reading.specs.Hears.{Hears, Heard, heard_by, hear_in, hear_at, hears, wake_of, reported_so, rest, starts}
+use Rattle.line_reading.specs.Hears.{Hears, Heard, heard_by, hear_in, hear_at, hears, wake_of, reported_so, rest, starts, due_in}
 use Rattle.line_reading.specs.Kept.{reported_at}
 use Rattle.line_reading.specs.Reading.{End}
 use Rattle.line_rounds.specs.declared.Seat.{Seat}
@@ -25,7 +25,7 @@ use Rattle.line_rounds.specs.Round.{IsRoundLine}
 use Rattle.line_wire.specs.Listening.{AreSenders, AreBegun}
 use Rattle.line_wire.specs.declared.edge_wire.EdgeWire.{EdgeWire}
 use Rattle.line_wire.specs.Line.{HaveBegun}
-use Rattle.line_wire.specs.Pulls.{due_in, low_in, held_in}
+use Rattle.line_wire.specs.Pulls.{low_in, held_in}
 use Rattle.line_wire.specs.Steps.{StandsAfter, wakes_in}
 use Rattle.line_wire.specs.Told.{told_of}
 use Rattle.line_wire.specs.Turns.{Heeds, KeepsOver, IsToldNext, acks_by, ended_by, held_by, is_told_in}

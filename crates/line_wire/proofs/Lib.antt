@@ -14,7 +14,6 @@ pub mod Pulling
 pub mod Begins
 pub mod Calm
 pub mod Room
-pub mod Due
 pub mod Recorded
 pub mod Kept
 pub mod Turning

@@ -17,7 +17,7 @@ use Rattle.line_wire.proofs.Along.{AreOver, Reached, over_sampled, next_none, en
 use Rattle.line_reading.specs.declared.receiver.ReceiverState.{ReceiverState}
 use Rattle.line_reading.specs.declared.receiver.ReceiverState.TheVariants.{Rest, StartLow, StartHigh, Unsampled, Sampled}
 use Rattle.line_reading.specs.Follows.{StoodBefore}
-use Rattle.line_reading.specs.Hears.{Hears, heard_by, hears, wake_of}
+use Rattle.line_reading.specs.Hears.{Hears, heard_by, hears, wake_of, due_in}
 use Rattle.line_reading.specs.declared.receiver.Receiver.{Receiver}
 use Rattle.line_reading.specs.Kept.{running_of}
 use Rattle.line_reading.specs.Sending.{known_bits, is_whole, out_by, state_by, sender_pulls, pull_of, SenderStood}
@@ -31,7 +31,7 @@ use Rattle.line_rounds.specs.Reached as wire
 use Rattle.line_rounds.proofs.Holding.{acks_now}
 use Rattle.line_wire.specs.Listening.{IsReadOnce, AreSenders, AreSending, SendsFor, IsSending}
 use Rattle.line_wire.specs.Line.{last_of, HaveBegun}
-use Rattle.line_wire.specs.Pulls.{pull_in, until_of, takes_last, low_in, due_in, is_on, IsHeld, held_in, Stands}
+use Rattle.line_wire.specs.Pulls.{pull_in, until_of, takes_last, low_in, is_on, IsHeld, held_in, Stands}
 use Rattle.line_reading.specs.Known.{nothing}
 use Rattle.line_reading.specs.Places.{StandsIn, Knows, runs_in}
 

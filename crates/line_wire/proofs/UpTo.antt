@@ -9,12 +9,12 @@ use Rattle.line_reading.specs.declared.receiver.Receiver.{Receiver}
 use Rattle.line_reading.specs.declared.receiver.ReceiverState.{ReceiverState}
 use Rattle.line_reading.specs.declared.receiver.ReceiverState.TheVariants.{Rest, StartLow, StartHigh, Unsampled, Sampled}
 use Rattle.line_reading.specs.declared.sender.Sender.{Sender}
-use Rattle.line_reading.specs.Hears.{heard_by, wake_of}
+use Rattle.line_reading.specs.Hears.{heard_by, wake_of, due_in}
 use Rattle.line_reading.specs.Reading.{End, reading_of}
 use Rattle.line_rounds.specs.declared.Seat.{Seat}
 use Rattle.line_rounds.specs.Round.{IsRoundLine}
 use Rattle.line_wire.specs.Line.{last_of, HaveBegun}
-use Rattle.line_wire.specs.Pulls.{pull_in, due_in, low_in, takes_last}
+use Rattle.line_wire.specs.Pulls.{pull_in, low_in, takes_last}
 use Rattle.line_wire.specs.Wire.{IsAt, IsRead, until_by, IsQuiet, ToldSo}
 use Rattle.line_wire.proofs.Goes.{low_is_found, calm_stays}
 use Rattle.line_wire.proofs.Standing.{until_by as until_at}

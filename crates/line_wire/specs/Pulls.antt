@@ -4,11 +4,10 @@ use Rattle.std.specs.List.{list_any}
 use Rattle.line_wave.specs.declared.Stretch.{Stretch}
 use Rattle.line_wave.specs.Line.{Line}
 use Rattle.line_reading.specs.declared.receiver.ReceiverState.{ReceiverState}
-use Rattle.line_reading.specs.declared.receiver.ReceiverState.TheVariants.{StartHigh, Unsampled, Sampled}
+use Rattle.line_reading.specs.declared.receiver.ReceiverState.TheVariants.{Unsampled, Sampled}
 use Rattle.line_reading.specs.declared.sender.SenderState.{SenderState}
 use Rattle.line_reading.specs.declared.sender.SenderState.TheVariants.{Sending}
 use Rattle.line_reading.specs.declared.sender.Sender.{Sender}
-use Rattle.line_reading.specs.Windows.{standard}
 use Rattle.line_reading.specs.Reading.{End, known_at, reading_of}
 use Rattle.line_reading.specs.Sending.{pull_of}
 use Rattle.line_rounds.specs.declared.Seat.{Seat}
@@ -56,12 +55,6 @@ pub record Stands (seats : List Seat) (begin : ℕ) (senders : List (Option Send
   pub sending : AreSending low begin t senders
   pub until_is : until ≡ until_of (known_at t (reading_of low begin)).ended t
   pub held_is : IsHeld seats low begin t held
-
--- the receiver that stands so tells at t that no fall came in time: the reading's last microsecond was the one before
-abbrev pub due_in : ReceiverState → ℕ → ℕ → ℕ → Bool
-due_in StartHigh begin fall t = t == begin + (standard.start_total.most + 1)
-due_in Sampled begin fall t = t == fall + (standard.bit_total.most + 1)
-due_in _ begin fall t = false
 
 abbrev pub is_on : SenderState → Bool
 is_on Sending = true

@@ -10,14 +10,14 @@ use Rattle.line_reading.specs.declared.receiver.Told.{Told}
 use Rattle.line_reading.specs.declared.receiver.Told.TheVariants.{Nothing, Bit, Last, Ended}
 use Rattle.line_frames.specs.declared.Ending.{Ending}
 use Rattle.line_reading.specs.Kept.{reported_at}
-use Rattle.line_reading.specs.Hears.{heard_by, wake_of, hear_in, reported_so}
+use Rattle.line_reading.specs.Hears.{heard_by, wake_of, hear_in, reported_so, due_in}
 use Rattle.line_reading.specs.Reading.{End, reading_of, bits_of}
 use Rattle.line_reading.specs.Follows.{StoodBefore, StandsOn}
 use Rattle.line_rounds.specs.declared.Seat.{Seat}
 use Rattle.line_rounds.specs.Round.{short_pull}
 use Rattle.line_rounds.specs.Machine.{breaks_after, is_short}
 use Rattle.line_wire.specs.Listening.{IsReadOnce, AreSenders, AreSending, AllHeard}
-use Rattle.line_wire.specs.Pulls.{pull_in, due_in, held_in, IsHeld}
+use Rattle.line_wire.specs.Pulls.{pull_in, held_in, IsHeld}
 
 -- what the wire has of the reading: all while it runs is the receiver's; then its bits and its ending are kept
 abbrev pub IsRead : List Seat → ℕ → Receiver → List Bool → Option End → ℕ → Line → ℕ → Type 0

@@ -61,13 +61,6 @@ fn copied_seats(seats: &[Seat]) -> ArrayVec<Seat, 15>
     kept
 }
 
-// A receiver that wakes there, by the number of where it stands, finds that no fall came in time.
-fn is_due_in(place: u8) -> bool
-    ensures { result ≡ ((place == 2) || (place == 4)) }
-{
-    place == 2 || place == 4
-}
-
 // Whether the line falls, where it was low or not just before.
 fn is_fall(was: bool, is_low: bool) -> bool
     ensures { result ≡ (is_low && not was) }
@@ -104,11 +97,11 @@ fn tell(receiver: &mut Receiver, t: u64, low: bool) -> Told
 impl EdgeWire {
     ghost use Rattle.std.specs.Prelude.{◌^◌};
     ghost use Rattle.std.specs.Option.{option_to_list};
-    ghost use Rattle.line_reading.specs.Hears.{wake_of};
+    ghost use Rattle.line_reading.specs.Hears.{wake_of, due_in};
     ghost use Rattle.line_wave.specs.Pulses.{AreSparse};
     ghost use Rattle.line_wire.specs.Listening.{AllHeard};
     ghost use Rattle.line_wire.specs.declared.reading.Ended.{Ended as EndedValue};
-    ghost use Rattle.line_wire.specs.Pulls.{due_in, takes_last};
+    ghost use Rattle.line_wire.specs.Pulls.{takes_last};
     ghost use Rattle.line_wire.specs.Told.{told_of};
     ghost use Rattle.line_wire.specs.Wire.{until_by};
     ghost use Rattle.line_wire.specs.Wired.{AreIdle, ArePulls, EachLine, EachOf, Follow, Found, IsBegunWith, IsKept, IsNext, IsReceiverIn, IsRoundOf, IsSenderIn, NextEdges, SameRound, SendsNothing, end_in, is_low_in, is_silent_in, pulls_in};
@@ -258,7 +251,7 @@ impl EdgeWire {
     fn is_due(&self) -> bool
         ensures { result ≡ due_in self.now.receiver.place self.now.receiver.begin self.now.receiver.fall self.now.time }
     {
-        is_due_in(self.receiver.parts().place) && wakes_in(self.receiver.wakes_at(), self.time)
+        self.receiver.is_due(self.time)
     }
 
     // The last microsecond in which a pull begins that the round takes.

@@ -7,6 +7,7 @@ ghost use Rattle.text_core.specs.Adds.{Adds};
 ghost use Rattle.live_session.specs.Session.{idle_line, refusal_cause, refused_line, taken_line};
 
 use device_core::Device;
+use record_core::Form;
 use room_script::{AssembleError, ScriptCause};
 use room_trace::add_state;
 use text_core::{Counted, Piece, Sink};
@@ -114,5 +115,5 @@ pub(crate) fn add_shown<S: Sink>(out: &mut Counted<'_, S>, device: &Device<16>)
     ensures { Adds out.old out.new (codes "= " ++ state_line device.now) }
 {
     add_mark(out);
-    add_state(out, device);
+    add_state(out, Form::Text, device);
 }

@@ -13,6 +13,7 @@ use crate::turns::{certain_until, next_edge, soonest, take_turns};
 use edid_core::Edid;
 use edid_tree::Tree;
 use line_wave::LATEST_EVENT;
+use record_core::Form;
 use room_run::{Totals, edid_on_heap, first_time};
 use room_script::{ScriptCause, ScriptDraft};
 use room_trace::{add_last_lines, write_ports};
@@ -358,7 +359,7 @@ impl Live {
     fn add_end<S: Sink>(&self, text: &mut Counted<'_, S>)
         ensures { Adds text.old text.new (end_reported (Trace self.now.edid) self.now.horizon self.now.place.net ++ taken_line self.now.horizon) }
     {
-        add_last_lines(text, self.net.devices(), self.horizon);
+        add_last_lines(text, Form::Text, self.net.devices(), self.horizon);
         add_taken(text, self.horizon);
     }
 

@@ -1,14 +1,11 @@
--- Frames in hex, a line each, and the lines of their texts (own). Lines that are empty or begin with `#` are skipped, but
--- counted. A word of the standard that the text leaves as a byte stands after it as a remark.
-use Rattle.std.specs.Prelude.{◌≡◌, ℕ, ◌+◌, Bool, true, if◌then◌else◌, List, [], ◌∷◌, ◌++◌, codes, Option, Some, None, Result, Ok, Err}
+-- Frames in hex, a line each (own). Lines that are empty or begin with `#` are skipped, but counted.
+use Rattle.std.specs.Prelude.{◌≡◌, ℕ, ◌+◌, Bool, true, if◌then◌else◌, List, [], ◌∷◌, Option, Some, None, Result, Ok, Err}
 use Rattle.std.specs.List.{flat_map}
 use Rattle.text_core.specs.At.{at_line, at_word}
 use Rattle.text_core.specs.Lines.{is_skipped}
 use Rattle.text_core.specs.Cut.{CutOff}
 use Rattle.text_core.specs.declared.at.At.{At}
-use Rattle.message_text.specs.FrameText.{frame_text}
 use Rattle.message_hex.specs.Bytes.{frame_in}
-use Rattle.message_hex.specs.Remark.{remark}
 use Rattle.message_hex.specs.declared.bytes.DisCause.{DisCause}
 use Rattle.message_hex.specs.declared.lines.DisError.{DisError}
 use Rattle.message_hex.specs.declared.lines.DisError.TheVariants.{Line, Write}
@@ -22,14 +19,6 @@ reported_frame (Err cause) = Err cause
 abbrev pub line_frame : List ℕ → Result (Option (List ℕ)) DisCause
 line_frame line = if is_skipped line then Ok None else reported_frame (frame_in line)
 
-abbrev pub remark_text : Option (List ℕ) → List ℕ
-remark_text None = []
-remark_text (Some word) = codes " # " ++ word
-
--- the line of a frame
-abbrev pub frame_line : List ℕ → List ℕ
-frame_line frame = frame_text frame ++ remark_text (remark frame) ++ codes "\n"
-
 -- what is written of a line that is so read, by what is written of a frame
 abbrev pub read_text : (List ℕ → List ℕ) → Result (Option (List ℕ)) DisCause → List ℕ
 read_text text_of (Ok None) = []
@@ -38,10 +27,6 @@ read_text text_of (Err cause) = []
 
 abbrev pub text_by : (List ℕ → List ℕ) → List ℕ → List ℕ
 text_by text_of line = read_text text_of (line_frame line)
-
--- what is written of a line
-abbrev pub line_text : List ℕ → List ℕ
-line_text line = text_by frame_line line
 
 abbrev pub fault_of : ℕ → Result (Option (List ℕ)) DisCause → Option (At DisCause) → Option (At DisCause)
 fault_of number (Ok frame) next = next

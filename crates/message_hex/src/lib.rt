@@ -1,4 +1,4 @@
-//! From the bytes of CEC frames, as tools print them, to the texts of the frames.
+//! From the bytes of CEC frames, as tools print them, to the frames.
 #![tactic(auto)]
 
 mod bytes;
@@ -8,5 +8,5 @@ mod remarks;
 
 pub use bytes::{DisCause, frame_in};
 pub use laws::{assembled_frames_are_read, spellings_are_read};
-pub use lines::{DisError, TextOfFrame, add_frame, dis_lines, write_frames};
+pub use lines::{DisError, TextOfFrame, write_frames};
 pub use remarks::remark;

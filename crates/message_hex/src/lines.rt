@@ -1,18 +1,14 @@
-//! Frames in hex, one a line, and their texts.
-ghost use Rattle.std.specs.Prelude.{◌≡◌, ◌++◌, ℕ, List, codes, Ok, Err, Some, None, Option, MatchResult};
-ghost use Rattle.message_hex.specs.Lines.{Answers, first_fault, frame_line, line_frame, line_text, text_by};
+//! Frames in hex, one a line.
+ghost use Rattle.std.specs.Prelude.{◌≡◌, ℕ, List, Ok, Err, Some, None, Option, MatchResult};
+ghost use Rattle.message_hex.specs.Lines.{Answers, first_fault, line_frame, text_by};
 ghost use Rattle.std.specs.List.{flat_map};
 ghost use Rattle.text_core.specs.Adds.{Adds};
 ghost use Rattle.text_core.specs.Cut.{WritesText};
 ghost use Rattle.text_core.specs.Lines.{lines_of};
 
 use crate::bytes::{DisCause, frame_in};
-use crate::remarks::remark;
 use line_frames::Frame;
-use message_text::frame_text;
-use text_core::{
-    At, Counted, Piece, Sink, TextOfLine, WriteFault, first_line, is_skipped, write_lines,
-};
+use text_core::{At, Counted, Sink, TextOfLine, WriteFault, first_line, is_skipped, write_lines};
 use thiserror::Error;
 
 /// Why the texts of frames are not written.
@@ -59,29 +55,6 @@ fn check_lines(text: &[u8]) -> Result<(), At<DisCause>>
         line += 1;
     }
     Ok(())
-}
-
-// Adds a text and the remark after it, as a line.
-fn add_with_remark<'a, S: Sink>(out: &mut Counted<'_, S>, text: &'a [u8], word: &'a str)
-    ensures { Adds out.old out.new (text.now ++ codes " # " ++ word.now ++ codes "\n") }
-{
-    out.add_line(&[
-        Piece::Bytes(text),
-        Piece::Text(" # "),
-        Piece::Text(word),
-        Piece::Text("\n"),
-    ]);
-}
-
-/// Adds the text of a frame as a line, with a remark after it where the text leaves as bytes what the standard has a word for.
-pub fn add_frame<S: Sink>(out: &mut Counted<'_, S>, frame: &Frame)
-    ensures { Adds out.old out.new (frame_line frame.now) }
-{
-    let text = frame_text(frame);
-    match remark(frame) {
-        None => out.add_line(&[Piece::Bytes(text.as_slice()), Piece::Text("\n")]),
-        Some(word) => add_with_remark(out, text.as_slice(), word),
-    }
 }
 
 /// What adds what is written of a frame.
@@ -133,7 +106,9 @@ fn write_each<S: Sink, F: TextOfFrame>(text: &[u8], each: &F, out: &mut S) -> Re
 ///
 /// # Errors
 ///
-/// Those of `dis_lines`.
+/// `Line` with the first line that has no frame, and why: then nothing was written. Lines that are empty or begin with `#`
+/// are skipped, but counted. `Write` where the sink takes no more: then the front of what is written was, as long as it
+/// says.
 pub fn write_frames<S: Sink, F: TextOfFrame>(
     text: &[u8],
     each: &F,
@@ -148,32 +123,4 @@ pub fn write_frames<S: Sink, F: TextOfFrame>(
         Ok(()) => Ok(()),
         Err(fault) => Err(DisError::Write(fault)),
     }
-}
-
-// Of a frame its text.
-struct FrameTexts;
-
-impl TextOfFrame for FrameTexts {
-    ghost use Rattle.message_hex.specs.Lines.{frame_line};
-
-    ghost text = { λ frames. frame_line };
-
-    fn add<S: Sink>(&self, out: &mut Counted<'_, S>, frame: &Frame) {
-        add_frame(out, frame);
-    }
-}
-
-/// Writes the texts of the frames whose bytes the lines of a text spell in hex, a line each; after a text a remark, ` # `
-/// and a word of the standard, where the text leaves the opcode or an operand as bytes and the standard has a word. It takes
-/// no memory.
-///
-/// # Errors
-///
-/// `Line` with the first line that has no frame, and why: then nothing was written. Lines that are empty or begin with `#`
-/// are skipped, but counted. `Write` where the sink takes no more: then the front of the texts was written, as long as it
-/// says.
-pub fn dis_lines<S: Sink>(text: &[u8], out: &mut S) -> Result<(), DisError>
-    ensures { Answers line_text (S.contents out.old) (S.contents out.new) (S.is_stuck out.old) (S.is_stuck out.new) (lines_of text.now) result }
-{
-    write_frames(text, &FrameTexts, out)
 }

@@ -7,7 +7,8 @@ use Rattle.text_core.specs.Lines.{lines_of}
 pub use Rattle.text_core.proofs.Adding.{more}
 use Rattle.line_wave.specs.declared.Stretch.{Stretch}
 use Rattle.message_lay.specs.Line.{IsLineRead}
-use Rattle.message_lay.specs.Text.{AreLinesRead, ArePullsOf, IsFollowed, Notes, Onward, follow, follows, no_notes, pull_line, taken, taken_by}
+use Rattle.record_core.specs.declared.cell.Form.{Form}
+use Rattle.message_lay.specs.Text.{AreLinesRead, ArePullsOf, IsFollowed, Notes, Onward, follow, follows, no_notes, pull_record, taken, taken_by}
 use Rattle.text_core.specs.At.{at_line}
 use Rattle.message_lay.specs.declared.fault.LayCause.{LayCause}
 use Rattle.text_core.specs.declared.at.At.{At}
@@ -74,23 +75,23 @@ onward_by lines number notes current (Ok own) pulls R is h f = by (follow notes.
     by (Ok free) e g = f free own e is g
 
 -- a line's pulls, and those of the lines after it
-in_order_next : (line : List ℕ) (lines : List (List ℕ)) (own more : List Stretch) → IsLineRead line (Ok own) → AreInOrder ArePullsOf lines (flat_map pull_line more)
-    → AreInOrder ArePullsOf (line ∷ lines) (flat_map pull_line (own ++ more))
-in_order_next line lines own more is others = (flat_map pull_line own, flat_map pull_line more, (own, is, refl), others, flat_map-append pull_line own more)
+in_order_next : (form : Form) (line : List ℕ) (lines : List (List ℕ)) (own more : List Stretch) → IsLineRead line (Ok own) → AreInOrder (ArePullsOf form) lines (flat_map (pull_record form) more)
+    → AreInOrder (ArePullsOf form) (line ∷ lines) (flat_map (pull_record form) (own ++ more))
+in_order_next form line lines own more is others = (flat_map (pull_record form) own, flat_map (pull_record form) more, (own, is, refl), others, flat_map-append (pull_record form) own more)
 
 -- the pulls of lines are those of the lines before, and then those of each line, in order
-pulls_after : (lines : List (List ℕ)) (number : ℕ) (notes : Notes) (pulls : List Stretch) → AreLinesRead lines number notes (Ok pulls)
-    → (more : List Stretch) × (pulls ≡ notes.pulls ++ more) × AreInOrder ArePullsOf lines (flat_map pull_line more)
-pulls_after [] number notes pulls h =
+pulls_after : (form : Form) (lines : List (List ℕ)) (number : ℕ) (notes : Notes) (pulls : List Stretch) → AreLinesRead lines number notes (Ok pulls)
+    → (more : List Stretch) × (pulls ≡ notes.pulls ++ more) × AreInOrder (ArePullsOf form) lines (flat_map (pull_record form) more)
+pulls_after form [] number notes pulls h =
     let same : pulls ≡ notes.pulls = cc in
     ([], same ∙ sym (append-nil notes.pulls), refl)
-pulls_after (line ∷ lines) number notes pulls h =
-    onward_by lines number notes line h.0 pulls ((more : List Stretch) × (pulls ≡ notes.pulls ++ more) × AreInOrder ArePullsOf (line ∷ lines) (flat_map pull_line more)) h.1 h.2
+pulls_after form (line ∷ lines) number notes pulls h =
+    onward_by lines number notes line h.0 pulls ((more : List Stretch) × (pulls ≡ notes.pulls ++ more) × AreInOrder (ArePullsOf form) (line ∷ lines) (flat_map (pull_record form) more)) h.1 h.2
     (λ free own follows is others.
-    let later = pulls_after lines (number + 1) (notes_so free (notes.pulls ++ own)) pulls others in
-    (own ++ later.0, later.1 ∙ append_assoc notes.pulls own later.0, in_order_next line lines own later.0 is later.2))
+    let later = pulls_after form lines (number + 1) (notes_so free (notes.pulls ++ own)) pulls others in
+    (own ++ later.0, later.1 ∙ append_assoc notes.pulls own later.0, in_order_next form line lines own later.0 is later.2))
 
-pub pulls_in_order : (lines : List (List ℕ)) (pulls : List Stretch) → AreLinesRead lines 1 no_notes (Ok pulls) → AreInOrder ArePullsOf lines (flat_map pull_line pulls)
-pulls_in_order lines pulls h =
-    let all = pulls_after lines 1 no_notes pulls h in
-    subst (λ (ps : List Stretch). AreInOrder ArePullsOf lines (flat_map pull_line ps)) (sym all.1) all.2
+pub pulls_in_order : (form : Form) (lines : List (List ℕ)) (pulls : List Stretch) → AreLinesRead lines 1 no_notes (Ok pulls) → AreInOrder (ArePullsOf form) lines (flat_map (pull_record form) pulls)
+pulls_in_order form lines pulls h =
+    let all = pulls_after form lines 1 no_notes pulls h in
+    subst (λ (ps : List Stretch). AreInOrder (ArePullsOf form) lines (flat_map (pull_record form) ps)) (sym all.1) all.2

@@ -4,3 +4,4 @@ pub mod Reading
 pub mod Checking
 pub mod Bounded
 pub mod Sent
+pub mod Records

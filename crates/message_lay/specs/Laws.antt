@@ -10,8 +10,10 @@ use Rattle.line_wave.specs.declared.Stretch.{Stretch}
 use Rattle.message_lay.specs.Faults.{pulls_read}
 use Rattle.message_lay.specs.Line.{IsFrameOf, IsLineRead}
 use Rattle.message_lay.specs.Words.{time_in}
-use Rattle.message_lay.specs.Text.{AreLinesRead, no_notes}
+use Rattle.message_lay.specs.Text.{AreLinesRead, no_notes, pull_line, pull_record}
 use Rattle.message_lay.specs.declared.pulls.Fault.TheVariants.{Absent}
+use Rattle.record_core.specs.ReadBack.{line_in}
+use Rattle.record_core.specs.declared.cell.Form.TheVariants.{Text, Json}
 
 -- without a fault: the start bit and the slots of a sender of these bytes, which begins then (CEC 5.2, 6)
 abbrev pub FaultlessAreSent : Type 0
@@ -30,3 +32,10 @@ pub record ArePulls (pulls : List Stretch) : Type 0 where
 
 abbrev pub LaidArePulls : Type 0
 LaidArePulls = (lines : List (List ℕ)) (pulls : List Stretch) → AreLinesRead lines 1 no_notes (Ok pulls) → ArePulls pulls
+
+-- the line of a pull's record is a line of a script, and stands in its object
+abbrev pub PullLines : Type 0
+PullLines = (pull : Stretch) → pull_record Text pull ≡ pull_line pull
+
+abbrev pub PullsAreReadBack : Type 0
+PullsAreReadBack = (pull : Stretch) → line_in (pull_record Json pull) ≡ pull_line pull

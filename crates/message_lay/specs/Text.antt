@@ -12,6 +12,10 @@ use Rattle.message_lay.specs.declared.fault.LayCause.{LayCause}
 use Rattle.message_lay.specs.declared.fault.LayCause.TheVariants.{Width, Order, Late}
 use Rattle.message_lay.specs.declared.fault.LayError.{LayError}
 use Rattle.message_lay.specs.declared.fault.LayError.TheVariants.{Line, Write}
+use Rattle.record_core.specs.Cells.{PlainCell, both}
+use Rattle.record_core.specs.Records.{record_text}
+use Rattle.record_core.specs.Values as values
+use Rattle.record_core.specs.declared.cell.Form.{Form}
 use Rattle.text_core.specs.declared.at.At.{At}
 use Rattle.text_core.specs.declared.at.AtWord.{AtWord}
 
@@ -79,15 +83,22 @@ AreLinesRead (line ∷ lines) number notes read =
 abbrev pub pull_line : Stretch → List ℕ
 pull_line p = codes "pull " ++ decimal p.from ++ codes " " ++ decimal (p.to - p.from) ++ codes "\n"
 
--- a text is the pulls of a line, as lines of a script
-abbrev pub ArePullsOf : List ℕ → List ℕ → Type 0
-ArePullsOf line text = (pulls : List Stretch) × IsLineRead line (Ok pulls) × (text ≡ flat_map pull_line pulls)
+-- that line as a record
+abbrev pub pull_cells : Stretch → List PlainCell
+pull_cells p = both (codes "pull ") (codes "at") (values.number p.from) ∷ both (codes " ") (codes "width") (values.number (p.to - p.from)) ∷ []
+
+abbrev pub pull_record : Form → Stretch → List ℕ
+pull_record form p = record_text form (codes "pull") (pull_cells p)
+
+-- a text is the pulls of a line, as lines of a script or as their objects
+abbrev pub ArePullsOf : Form → List ℕ → List ℕ → Type 0
+ArePullsOf form line text = (pulls : List Stretch) × IsLineRead line (Ok pulls) × (text ≡ flat_map (pull_record form) pulls)
 
 -- All lines are laid, and their pulls are written, whole or their front up to a fault; or the first that is not is returned, and
 -- nothing is written.
-abbrev pub Answers : Option (List ℕ) → Option (List ℕ) → Bool → Bool → List (List ℕ) → Result (Unit {0}) LayError → Type 0
-Answers old new was is lines (Ok n) =
-    (pulls : List Stretch) × (AreLinesRead lines 1 no_notes (Ok pulls) × Appends old new (flat_map pull_line pulls) × (is ≡ was))
-Answers old new was is lines (Err (Write fault)) =
-    (pulls : List Stretch) × (AreLinesRead lines 1 no_notes (Ok pulls) × CutOff old new (flat_map pull_line pulls) fault × (is ≡ true))
-Answers old new was is lines (Err (Line fault)) = AreLinesRead lines 1 no_notes (Err fault) × (new ≡ old) × (is ≡ was)
+abbrev pub Answers : Form → Option (List ℕ) → Option (List ℕ) → Bool → Bool → List (List ℕ) → Result (Unit {0}) LayError → Type 0
+Answers form old new was is lines (Ok n) =
+    (pulls : List Stretch) × (AreLinesRead lines 1 no_notes (Ok pulls) × Appends old new (flat_map (pull_record form) pulls) × (is ≡ was))
+Answers form old new was is lines (Err (Write fault)) =
+    (pulls : List Stretch) × (AreLinesRead lines 1 no_notes (Ok pulls) × CutOff old new (flat_map (pull_record form) pulls) fault × (is ≡ true))
+Answers form old new was is lines (Err (Line fault)) = AreLinesRead lines 1 no_notes (Err fault) × (new ≡ old) × (is ≡ was)

@@ -1,5 +1,5 @@
 //! Laws of frames that are laid.
-ghost use Rattle.message_lay.specs.Laws.{FaultlessAreSent, FramesAreSent, LaidArePulls};
+ghost use Rattle.message_lay.specs.Laws.{FaultlessAreSent, FramesAreSent, LaidArePulls, PullLines, PullsAreReadBack};
 
 /// Without a fault a frame is laid as a sender of nominal times pulls it (CEC 5.2).
 pub fn faultless_are_sent()
@@ -15,4 +15,10 @@ pub fn frames_are_sent()
 /// later than 1,000,000,000,000.
 pub fn laid_are_pulls()
     ensures { LaidArePulls }
+{}
+
+/// The line of a pull's record is `pull T WIDTH`, and it stands in the record's object.
+pub fn pulls_are_lines()
+    ensures lines { PullLines }
+    ensures objects { PullsAreReadBack }
 {}

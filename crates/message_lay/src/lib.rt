@@ -13,5 +13,5 @@ mod words;
 
 pub use bits::{BitTimes, MOST_BLOCKS};
 pub use fault::{LayCause, LayError};
-pub use laws::{faultless_are_sent, frames_are_sent, laid_are_pulls};
+pub use laws::{faultless_are_sent, frames_are_sent, laid_are_pulls, pulls_are_lines};
 pub use lay::lay_lines;

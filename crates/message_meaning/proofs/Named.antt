@@ -1,5 +1,5 @@
 -- Sentences and names are of the same opcodes.
-use Rattle.std.proofs.Common.{◌≡◌, ℕ, ◌==◌, Bool, true, false, List, [], ◌∷◌, map, find, is_some, option_map, None, Some, if◌then◌else◌, refl, ap, sym, ◌∙◌}
+use Rattle.std.proofs.Common.{◌≡◌, ℕ, ◌==◌, Bool, true, false, List, [], ◌∷◌, map, find, is_some, option_map, Some, if◌then◌else◌, refl, ap, sym, ◌∙◌}
 use Rattle.message_table.specs.Table.{Row, rows}
 use Rattle.message_meaning.specs.Sentences.{Sentence, sentence_in, sentences}
 use Rattle.message_meaning.specs.Named.{NamedOpcodesHaveSentences}

@@ -1,5 +1,7 @@
 pub mod Addresses
 pub mod Sentences
 pub mod Meaning
-pub mod Lines
 pub mod Named
+pub mod FrameLine
+pub mod Records
+pub mod Laws

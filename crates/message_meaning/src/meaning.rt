@@ -1,6 +1,7 @@
 //! A frame in plain words.
 ghost use Rattle.std.specs.Prelude.{◌≡◌, option_copied, option_map};
-ghost use Rattle.message_meaning.specs.Meaning.{after_word, between, clause, closing, is_own_poll, joint_of, meaning_line, message_line, opening, other_poll_line, own_poll_line, poll_line, refused_name, remark_lead, remark_word, statement, tail, told, unread, word, worded};
+ghost use Rattle.message_meaning.specs.Meaning.{after_word, closing, is_own_poll, joint_of, opening, refused_name, remark_lead, remark_word, word};
+ghost use Rattle.message_meaning.specs.Records.{clause_by, clause_of, meaning_record, meant_by, message_cells, other_poll, other_poll_cells, own_poll_cells, plain_clause, poll_cells, said_cells, told_cells, unread_cells, unread_words, worded_cells};
 ghost use Rattle.message_meaning.specs.Sentences.{sentence_in_code};
 ghost use Rattle.text_core.specs.Adds.{Adds};
 
@@ -10,6 +11,7 @@ use line_frames::Frame;
 use message_hex::remark;
 use message_table::name;
 use message_text::frame_text;
+use record_core::{Form, Value, add_record, cells};
 use text_core::{Counted, Piece, Sink, after, before, len_before};
 
 /// Feature Abort, whose first operand is an opcode (CEC 15).
@@ -29,34 +31,34 @@ fn after_word(text: &[u8]) -> &[u8]
     after(text, len_before(text, b' ') + 1)
 }
 
-// Who says it, the verb, to whom, and what.
-fn add_statement<'a, S: Sink>(out: &mut Counted<'_, S>, header: u8, verb: &'a str, text: &'a [u8])
-    ensures { Adds out.old out.new (statement header verb.now text.now) }
+/// Who asks, tells or sends, which of these, to whom, and what.
+#[derive(Clone, Copy)]
+struct Clause<'a> {
+    sender: &'a str,
+    verb: &'a str,
+    receiver: &'a str,
+    text: &'a [u8],
+}
+
+// What the sender of a header says to its receiver.
+fn says<'a>(header: u8, verb: &'a str, text: &'a [u8]) -> Clause<'a>
+    ensures { plain_clause result ≡ clause_by header verb.now text.now }
 {
-    out.add_line(&[
-        Piece::Text("  "),
-        Piece::Text(sender(header)),
-        Piece::Text(" "),
-        Piece::Text(verb),
-        Piece::Text(" "),
-        Piece::Text(receiver(header)),
-        Piece::Text(" "),
-        Piece::Bytes(text),
-    ])
+    Clause {
+        sender: sender(header),
+        verb,
+        receiver: receiver(header),
+        text,
+    }
 }
 
 // What a message is for: of an opcode without a name, that it is sent.
-fn add_clause<S: Sink>(
-    out: &mut Counted<'_, S>,
-    header: u8,
-    sentence: &Option<Sentence>,
-    rest: &[u8],
-)
-    ensures { Adds out.old out.new (clause header (option_map sentence_in_code sentence.now) (word rest.now)) }
+fn clause_of<'a>(header: u8, sentence: &Option<Sentence>, name: &'a [u8]) -> Clause<'a>
+    ensures { plain_clause result ≡ clause_of header (option_map sentence_in_code sentence.now) name.now }
 {
     match sentence {
-        None => add_statement(out, header, "sends", word(rest)),
-        Some(sentence) => add_statement(out, header, sentence.verb, sentence.text.as_bytes()),
+        None => says(header, "sends", name),
+        Some(sentence) => says(header, sentence.verb, sentence.text.as_bytes()),
     }
 }
 
@@ -70,20 +72,26 @@ fn joint_of(joint: &'static str, rest: &[u8]) -> &'static str
 // The words of the operands, after the lead.
 fn add_told<'a, S: Sink>(
     out: &mut Counted<'_, S>,
+    form: Form,
+    clause: Clause<'a>,
     lead: &'a str,
     first: &'a [u8],
     joint: &'a str,
     rest: &'a [u8],
 )
-    ensures { Adds out.old out.new (told lead.now first.now joint.now rest.now) }
+    ensures { Adds out.old out.new (meant_by form (told_cells (plain_clause clause.entry) lead.now first.now joint.now rest.now)) }
 {
-    out.add_line(&[
-        Piece::Text(lead),
-        Piece::Bytes(first),
-        Piece::Text(joint),
-        Piece::Bytes(rest),
-        Piece::Text("\n"),
-    ])
+    let cells = cells![
+        both("  ", "sender", Value::One(Piece::Text(clause.sender))),
+        both(" ", "verb", Value::One(Piece::Text(clause.verb))),
+        both(" ", "receiver", Value::One(Piece::Text(clause.receiver))),
+        both(" ", "text", Value::One(Piece::Bytes(clause.text))),
+        both(lead, "operand", Value::One(Piece::Bytes(first))),
+        both(joint, "others", Value::One(Piece::Bytes(rest))),
+        hidden("word", Value::Nothing),
+        hidden("operands", Value::Nothing),
+    ];
+    add_record(out, form, "meaning", &cells);
 }
 
 // The name of the opcode that an operand is, if it has one.
@@ -102,18 +110,28 @@ fn refused_name(opcode: u8, operands: &[u8]) -> Option<&'static str>
 // What the words of the operands say.
 fn add_words<S: Sink>(
     out: &mut Counted<'_, S>,
+    form: Form,
+    clause: Clause<'_>,
     sentence: &Sentence,
     opcode: u8,
     operands: &[u8],
     said: &[u8],
 )
-    ensures { Adds out.old out.new (worded (sentence_in_code sentence.now) opcode operands.now said.now) }
+    ensures { Adds out.old out.new (meant_by form (worded_cells (plain_clause clause.entry) (sentence_in_code sentence.now) opcode operands.now said.now)) }
 {
     let rest = after_word(said);
     let joint = joint_of(sentence.joint, rest);
     match refused_name(opcode, operands) {
-        None => add_told(out, sentence.lead, word(said), joint, rest),
-        Some(name) => add_told(out, sentence.lead, name.as_bytes(), joint, rest),
+        None => add_told(out, form, clause, sentence.lead, word(said), joint, rest),
+        Some(name) => add_told(
+            out,
+            form,
+            clause,
+            sentence.lead,
+            name.as_bytes(),
+            joint,
+            rest,
+        ),
     }
 }
 
@@ -147,48 +165,73 @@ fn closing(hex: &[u8]) -> &'static str
     if hex.is_empty() { "" } else { ")" }
 }
 
-// Operands that the text leaves as bytes, with the standard's word for them where it has one.
-fn add_unread<'a, S: Sink>(out: &mut Counted<'_, S>, word: &'a Option<&'static str>, hex: &'a [u8])
-    ensures { Adds out.old out.new (unread (option_copied word.now) hex.now) }
+// Operands that the text leaves as bytes, with the standard's word for them, each after what stands before it.
+fn add_unread_words<'a, S: Sink>(
+    out: &mut Counted<'_, S>,
+    form: Form,
+    clause: Clause<'a>,
+    lead: &'a str,
+    word: &'a str,
+    opening: &'a str,
+    hex: &'a [u8],
+    closing: &'a str,
+)
+    ensures { Adds out.old out.new (meant_by form (unread_words (plain_clause clause.entry) lead.now word.now opening.now hex.now closing.now)) }
 {
-    out.add_line(&[
-        Piece::Text(remark_lead(word)),
-        Piece::Text(remark_word(word)),
-        Piece::Text(opening(hex)),
-        Piece::Bytes(hex),
-        Piece::Text(closing(hex)),
-        Piece::Text("\n"),
-    ])
+    let cells = cells![
+        both("  ", "sender", Value::One(Piece::Text(clause.sender))),
+        both(" ", "verb", Value::One(Piece::Text(clause.verb))),
+        both(" ", "receiver", Value::One(Piece::Text(clause.receiver))),
+        both(" ", "text", Value::One(Piece::Bytes(clause.text))),
+        hidden("operand", Value::Nothing),
+        hidden("others", Value::Nothing),
+        both(lead, "word", Value::One(Piece::Text(word))),
+        both(opening, "operands", Value::One(Piece::Bytes(hex))),
+        line(closing, Value::Nothing),
+    ];
+    add_record(out, form, "meaning", &cells);
 }
 
-// What the operands say, and the end of the line.
+// The same, where the standard has a word for them.
+fn add_unread<'a, S: Sink>(
+    out: &mut Counted<'_, S>,
+    form: Form,
+    clause: Clause<'a>,
+    word: &'a Option<&'static str>,
+    hex: &'a [u8],
+)
+    ensures { Adds out.old out.new (meant_by form (unread_cells (plain_clause clause.entry) (option_copied word.now) hex.now)) }
+{
+    add_unread_words(
+        out,
+        form,
+        clause,
+        remark_lead(word),
+        remark_word(word),
+        opening(hex),
+        hex,
+        closing(hex),
+    )
+}
+
+// What the operands say, as the text of the frame has them.
 fn add_said<S: Sink>(
     out: &mut Counted<'_, S>,
+    form: Form,
+    clause: Clause<'_>,
     sentence: &Option<Sentence>,
     frame: &Frame,
     said: &[u8],
 )
-    ensures { Adds out.old out.new (tail (option_map sentence_in_code sentence.now) frame.now said.now) }
+    ensures { Adds out.old out.new (meant_by form (said_cells (plain_clause clause.entry) (option_map sentence_in_code sentence.now) frame.now said.now)) }
 {
     match (said, sentence, frame.bytes()) {
-        ([b':', hex @ ..], _, _) => add_unread(out, &remark(frame), hex),
+        ([b':', hex @ ..], _, _) => add_unread(out, form, clause, &remark(frame), hex),
         ([_, ..], Some(sentence), [_, opcode, operands @ ..]) => {
-            add_words(out, sentence, *opcode, operands, said)
+            add_words(out, form, clause, sentence, *opcode, operands, said)
         }
-        _ => out.add_line(&[Piece::Bytes(said), Piece::Text("\n")]),
+        _ => add_told(out, form, clause, "", said, "", b""),
     }
-}
-
-// The same of what stands after the opcode.
-fn add_tail<S: Sink>(
-    out: &mut Counted<'_, S>,
-    sentence: &Option<Sentence>,
-    frame: &Frame,
-    rest: &[u8],
-)
-    ensures { Adds out.old out.new (tail (option_map sentence_in_code sentence.now) frame.now (after_word rest.now)) }
-{
-    add_said(out, sentence, frame, after_word(rest))
 }
 
 // Whether a poll goes to the address that it comes from.
@@ -198,73 +241,81 @@ fn is_own_poll(header: u8) -> bool
     header / 16 == header % 16
 }
 
-// A name between two texts.
-fn add_between<'a, S: Sink>(
-    out: &mut Counted<'_, S>,
-    before: &'a str,
-    name: &'a str,
-    after: &'a str,
-)
-    ensures { Adds out.old out.new (between before.now name.now after.now) }
+// A poll for an address to take (CEC 10.2.1), by the name of the device at it.
+fn add_own_poll<S: Sink>(out: &mut Counted<'_, S>, form: Form, name: &'static str)
+    ensures { Adds out.old out.new (meant_by form (own_poll_cells name.now)) }
 {
-    out.add_line(&[Piece::Text(before), Piece::Text(name), Piece::Text(after)])
-}
-
-// A poll for an address to take (CEC 10.2.1).
-fn add_own_poll<S: Sink>(out: &mut Counted<'_, S>, header: u8)
-    ensures { Adds out.old out.new (own_poll_line header) }
-{
-    let name = sender(header);
-    add_between(out, "  a device asks whether it may be ", name, "\n")
+    let cells = cells![
+        hidden("sender", Value::Nothing),
+        hidden("verb", Value::Nothing),
+        hidden("receiver", Value::Nothing),
+        both(
+            "  a device asks whether it may be ",
+            "text",
+            Value::One(Piece::Text(name))
+        ),
+        hidden("operand", Value::Nothing),
+        hidden("others", Value::Nothing),
+        hidden("word", Value::Nothing),
+        hidden("operands", Value::Nothing),
+    ];
+    add_record(out, form, "meaning", &cells);
 }
 
 // A poll of another device.
-fn add_other_poll<S: Sink>(out: &mut Counted<'_, S>, header: u8)
-    ensures { Adds out.old out.new (other_poll_line header) }
+fn other_poll(header: u8) -> Clause<'static>
+    ensures { plain_clause result ≡ other_poll header }
 {
-    add_statement(out, header, "asks", b"to acknowledge\n")
+    says(header, "asks", b"to acknowledge")
+}
+
+fn add_other_poll<S: Sink>(out: &mut Counted<'_, S>, form: Form, header: u8)
+    ensures { Adds out.old out.new (meant_by form (other_poll_cells header)) }
+{
+    add_told(out, form, other_poll(header), "", b"", "", b"")
 }
 
 // What a poll asks.
-fn add_poll<S: Sink>(out: &mut Counted<'_, S>, header: u8)
-    ensures { Adds out.old out.new (poll_line header) }
+fn add_poll<S: Sink>(out: &mut Counted<'_, S>, form: Form, header: u8)
+    ensures { Adds out.old out.new (meant_by form (poll_cells header)) }
 {
     if is_own_poll(header) {
-        add_own_poll(out, header)
+        add_own_poll(out, form, sender(header))
     } else {
-        add_other_poll(out, header)
+        add_other_poll(out, form, header)
     }
 }
 
 // What a message says.
-#[tactic(auto, using(text_core::proofs::Adding::then))]
 fn add_message<S: Sink>(
     out: &mut Counted<'_, S>,
+    form: Form,
     header: u8,
     sentence: &Option<Sentence>,
     frame: &Frame,
     rest: &[u8],
 )
-    ensures { Adds out.old out.new (message_line header (option_map sentence_in_code sentence.now) frame.now rest.now) }
+    ensures { Adds out.old out.new (meant_by form (message_cells header (option_map sentence_in_code sentence.now) frame.now rest.now)) }
 {
-    add_clause(out, header, sentence, rest);
-    add_tail(out, sentence, frame, rest)
+    let clause = clause_of(header, sentence, word(rest));
+    add_said(out, form, clause, sentence, frame, after_word(rest))
 }
 
-/// Adds the line that says in plain words what a frame means, after two spaces.
+/// Adds the record of what a frame means: who asks, tells or sends what to whom, and what its operands say.
 #[tactic(auto, using(text_core::proofs::Adding::nothing))]
-pub fn add_meaning<S: Sink>(out: &mut Counted<'_, S>, frame: &Frame)
-    ensures { Adds out.old out.new (meaning_line frame.now) }
+pub fn add_meaning<S: Sink>(out: &mut Counted<'_, S>, form: Form, frame: &Frame)
+    ensures { Adds out.old out.new (meaning_record form frame.now) }
 {
     match frame.bytes() {
         [header, opcode, operands @ ..] => add_message(
             out,
+            form,
             *header,
             &sentence_for(*opcode, operands),
             frame,
             after_word(&frame_text(frame)),
         ),
-        [header] => add_poll(out, *header),
+        [header] => add_poll(out, form, *header),
         [] => {}
     }
 }

@@ -4,3 +4,4 @@ pub mod ObjectLemmas
 pub mod TestLemmas
 pub mod CaptureTestLemmas
 pub mod LiveLemmas
+pub mod ReportLemmas

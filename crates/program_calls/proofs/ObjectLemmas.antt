@@ -3,10 +3,10 @@ use Rattle.std.proofs.Common.{◌≡◌, ◌++◌, ℕ, Bool, true, false, List,
 use Rattle.std.specs.Io.KnownBytes.{Appends}
 use Rattle.std.specs.List.{flat_map}
 use Rattle.text_core.specs.ByLine.{AreInOrder}
-use Rattle.json_trace.specs.Object.{IsObject}
 use Rattle.json_room.specs.Event.{IsRoomObject}
 use Rattle.json_room.specs.Head.{head_text}
-use Rattle.room_run.specs.Emulate.{IsTraceOf}
+use Rattle.room_run.specs.Emulate.{AreObjectsOf as AreRunObjects, IsTraceOf}
+use Rattle.room_run.proofs.ObjectLines.{objects_are_of_the_trace}
 use Rattle.room_run.specs.declared.run.Totals.{Totals}
 use Rattle.text_core.specs.Lines.{lines_of}
 use Rattle.program_calls.specs.Done.{AreObjectsOf, Writes, WritesLines, are_of_run}
@@ -42,10 +42,17 @@ objects_done objects name input bytes text old new before after lines e f held a
 -- ---- of a run, while it runs
 
 pub trace_done : (strict : Bool) (input topology script : List ℕ) (totals : Totals) (before after : Option (List ℕ)) → IsRunInput input topology script → (strict ≡ true → totals.refused ≡ 0)
-    → (trace : List ℕ) × (objects : List ℕ) × IsTraceOf topology script trace totals × AreInOrder IsObject (lines_of trace) objects × Appends before after objects
-    → Writes (Json (of.Trace strict)) [] input before after
+    → (text : List ℕ) × AreRunObjects topology script text totals × Appends before after text → Writes (Json (of.Trace strict)) [] input before after
 trace_done strict input topology script totals before after parts taken w =
-    (w.1, (w.0, (totals, record { topology = topology; script = script; parts = parts; trace = w.2 }, taken), w.3), w.4)
+    let shown = objects_are_of_the_trace topology script w.0 totals w.1 in (
+      w.0,
+      (
+        shown.0,
+        (totals, record { topology = topology; script = script; parts = parts; trace = shown.1 }, taken),
+        record { topology = topology; script = script; totals = totals; parts = parts; objects = w.1; records = shown.2 },
+      ),
+      w.2,
+    )
 
 pub room_done : (strict : Bool) (input topology script : List ℕ) (totals : Totals) (before after : Option (List ℕ)) → IsRunInput input topology script → (strict ≡ true → totals.refused ≡ 0)
     → (trace : List ℕ) × (objects : List ℕ) × IsTraceOf topology script trace totals × AreInOrder (IsRoomObject (lines_of script)) (lines_of trace) objects
@@ -62,7 +69,7 @@ room_done strict input topology script totals before after parts taken w = (
 )
 
 pub trace_ended : {A E : Type 0} (result : Result A E) (strict : Bool) (input topology script : List ℕ) (totals : Totals) (before after : Option (List ℕ)) → IsRunInput input topology script
-    → (trace : List ℕ) × (objects : List ℕ) × IsTraceOf topology script trace totals × AreInOrder IsObject (lines_of trace) objects × Appends before after objects
+    → (text : List ℕ) × AreRunObjects topology script text totals × Appends before after text
     → OnOk result (strict ≡ true → totals.refused ≡ 0) → OnOk result (Writes (Json (of.Trace strict)) [] input before after)
 trace_ended result strict input topology script totals before after parts w =
     on_ok result _ _ (λ taken. trace_done strict input topology script totals before after parts taken w)

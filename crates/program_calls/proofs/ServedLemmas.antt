@@ -1,20 +1,21 @@
 -- What the words of a command line ask for is done.
 use Rattle.std.proofs.Common.{◌≡◌, ℕ, List, Option, Some, None, subst, sym}
 use Rattle.program_captures.specs.Following.{FollowsTo}
-use Rattle.program_calls.specs.Done.{AreServedAs, IsHelp, IsServed}
+use Rattle.program_calls.specs.Done.{AreServedAs, IsHelp, IsServed, IsServedOf}
 use Rattle.cli_words.specs.declared.choice.Asked.{Asked}
 use Rattle.cli_words.specs.declared.choice.CommandChoice.TheVariants.{Follow}
 use Rattle.follow_core.specs.declared.lines.LineForm.{LineForm}
 use Rattle.cli_words.specs.declared.choice.FollowReport.{FollowReport}
 
 -- where a choice was made
-pub chosen : (o : Option Asked) (asked : Asked) (name : List ℕ) (known old new : Option (List ℕ)) → o ≡ Some asked → IsServed known old new asked.choice name
-    → AreServedAs o name known old new
-chosen o asked name known old new is served = subst (λ x. AreServedAs x name known old new) (sym is) served
+pub chosen : (o : Option Asked) (asked : Asked) (name : List ℕ) (operands : List (List ℕ)) (stdin : Option (List ℕ)) (held : List ℕ → Option (List ℕ)) (old new : Option (List ℕ)) → o ≡ Some asked
+    → IsServedOf asked.choice name operands stdin held old new → AreServedAs o name operands stdin held old new
+chosen o asked name operands stdin held old new is served = subst (λ x. AreServedAs x name operands stdin held old new) (sym is) served
 
 -- and where none was
-pub helped : (o : Option Asked) (name : List ℕ) (known old new : Option (List ℕ)) → o ≡ None → IsHelp old new → AreServedAs o name known old new
-helped o name known old new is help = subst (λ x. AreServedAs x name known old new) (sym is) help
+pub helped : (o : Option Asked) (name : List ℕ) (operands : List (List ℕ)) (stdin : Option (List ℕ)) (held : List ℕ → Option (List ℕ)) (old new : Option (List ℕ)) → o ≡ None → IsHelp old new
+    → AreServedAs o name operands stdin held old new
+helped o name operands stdin held old new is help = subst (λ x. AreServedAs x name operands stdin held old new) (sym is) help
 
 -- a capture that is reported as its lines come
 pub followed : (form : LineForm) (margin : ℕ) (report : FollowReport) (known old new : Option (List ℕ)) (name : List ℕ) → FollowsTo form name margin report known old new

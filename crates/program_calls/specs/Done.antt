@@ -1,28 +1,26 @@
 -- What the program does for a choice, an input and what it writes (own).
-use Rattle.std.specs.Prelude.{◌≡◌, ℕ, Bool, true, false, if◌then◌else◌, ◌⊎◌, List, take, Option, None, Some, Ok, MatchOption, codes}
-use Rattle.std.specs.Str.{bytes_eq}
+use Rattle.std.specs.Prelude.{◌≡◌, ℕ, Bool, true, false, if◌then◌else◌, ◌⊎◌, List, [], ◌∷◌, Option, None, Some, Ok, MatchOption, codes}
 use Rattle.std.specs.List.{flat_map}
 use Rattle.std.specs.Io.KnownBytes.{Appends}
-use Rattle.message_hex.specs.Lines.{first_fault, line_text}
+use Rattle.message_hex.specs.Lines.{first_fault}
 use Rattle.room_driven.specs.Emulate.{IsDumpOf}
 use Rattle.room_driven.specs.declared.wires.Wires.{Wires}
 use Rattle.room_driven.specs.declared.wires.Wires.TheVariants as wires
-use Rattle.json_trace.specs.Object.{AreObjects}
-use Rattle.message_lay.specs.Text.{AreLinesRead, no_notes, pull_line}
+use Rattle.message_lay.specs.Text.{AreLinesRead, no_notes, pull_record}
 use Rattle.capture_forms.specs.declared.form.CaptureForm.{CaptureForm}
-use Rattle.message_meaning.specs.Lines.{meant_text}
+use Rattle.message_meaning.specs.Records.{dis_text}
 use Rattle.json_report.specs.Object.{AreReportObjects}
-use Rattle.json_report.specs.declared.object.ReportKind.{ReportKind}
 use Rattle.json_report.specs.declared.object.ReportKind.TheVariants as kinds
 use Rattle.json_room.specs.Room.{AreRoomObjects}
-use Rattle.room_run.specs.Emulate.{IsLineOf, IsTraceOf}
+use Rattle.room_run.specs.Emulate.{AreObjectsOf as AreRunObjects, IsLineOf, IsTraceOf}
+use Rattle.room_run.specs.Objects.{AreOfRecords}
 use Rattle.room_run.specs.declared.run.Totals.{Totals}
 use Rattle.room_steps.specs.StepRun.{AreStepsOf}
 use Rattle.message_text.specs.FrameLines.{AreTextsOf, hex_line as frame_line, lines_of_frames}
 use Rattle.line_wave.specs.declared.Stretch.{Stretch}
 use Rattle.text_core.specs.Lines.{lines_of}
-use Rattle.cli_words.specs.Line.{asked_by}
 use Rattle.cli_words.specs.MonFlags.{signal_in}
+use Rattle.cli_words.specs.Operands.{asked_on, is_report, operands_in, words_in}
 use Rattle.cli_words.specs.declared.choice.Asked.{Asked}
 use Rattle.cli_words.specs.declared.choice.CommandChoice.{CommandChoice}
 use Rattle.cli_words.specs.declared.choice.CommandChoice.TheVariants.{Run, Check, CheckCapture, Step, Live, Asm, Dis, Lay, Mon, Follow, Json, Edid}
@@ -38,8 +36,10 @@ use Rattle.program_captures.specs.Objects.{AreCaptureObjects, is_audit}
 use Rattle.program_edids.specs.Edids.{IsMade}
 use Rattle.program_calls.specs.CaptureTests.{IsCaptureTest}
 use Rattle.program_calls.specs.Live.{IsLiveDoneAs}
+use Rattle.program_calls.specs.Reports.{WritesReports, report_kind}
 use Rattle.program_input.specs.Parted.{IsRunInput, IsStepsInput}
 use Rattle.program_input.specs.Read.{IsAllOf}
+use Rattle.program_source.specs.Source.{known_bytes, known_joined}
 use Rattle.program_calls.specs.Tests.{IsTestOf}
 
 -- this text with these counts is the trace of the run that the input spells
@@ -112,9 +112,14 @@ are_of_run (of.CaptureTest form glitch) = false
 abbrev pub WritesLines : Objects → List ℕ → List ℕ → Option (List ℕ) → Option (List ℕ) → Type 0
 WritesLines objects name input old new = (text : List ℕ) × AreLines objects name input text × Appends old new text
 
--- the report of one run begins with its version, a sweep with an instant
-abbrev pub report_kind : List ℕ → ReportKind
-report_kind lines = if bytes_eq (take 3 lines) (codes "TAP") then kinds.Expectations else kinds.Sweep
+-- a text is the objects of the run that the input spells, and its records are those of these lines of its trace
+pub record AreRunDone (input lines text : List ℕ) : Type 0 where
+  pub topology : List ℕ
+  pub script : List ℕ
+  pub totals : Totals
+  pub parts : IsRunInput input topology script
+  pub objects : AreRunObjects topology script text totals
+  pub records : AreOfRecords lines text
 
 -- a text is the objects of the room that the input spells, and of these lines of its trace
 pub record AreRoomDone (input lines text : List ℕ) : Type 0 where
@@ -125,7 +130,7 @@ pub record AreRoomDone (input lines text : List ℕ) : Type 0 where
 
 -- a text is the objects of these lines
 abbrev pub AreObjectsOf : Objects → List ℕ → List ℕ → List ℕ → Type 0
-AreObjectsOf (of.Trace strict) input lines text = AreObjects (lines_of lines) text
+AreObjectsOf (of.Trace strict) input lines text = AreRunDone input lines text
 AreObjectsOf (of.Room strict) input lines text = AreRoomDone input lines text
 AreObjectsOf (of.Capture form glitch margin inverted report) input lines text = AreCaptureObjects (is_audit report) lines text
 AreObjectsOf (of.Test traced) input lines text = AreReportObjects (report_kind lines) (lines_of lines) text
@@ -134,11 +139,6 @@ AreObjectsOf (of.CaptureTest form glitch) input lines text = AreReportObjects ki
 -- they are written, and nothing else
 abbrev pub WritesObjects : Objects → List ℕ → List ℕ → Option (List ℕ) → Option (List ℕ) → Type 0
 WritesObjects objects input lines old new = (text : List ℕ) × AreObjectsOf objects input lines text × Appends old new text
-
--- what is written of a line of hex: the frame's text, and below it what it means or not
-abbrev pub dis_text : Bool → List ℕ → List ℕ
-dis_text false = line_text
-dis_text true = meant_text
 
 -- The text that a choice makes of an input; of a capture, of the wire of a name. A strict run is one whose events were all
 -- taken.
@@ -149,8 +149,8 @@ IsDone (CheckCapture form glitch) name input text = IsCaptureTest form name glit
 IsDone Step name input text = AreStepsDone input text
 IsDone (Live json) name input text = IsLiveDoneAs json input text
 IsDone Asm name input text = (frames : List (List ℕ)) × AreTextsOf (lines_of_frames (lines_of input)) frames × (text ≡ flat_map frame_line frames)
-IsDone (Dis meaning) name input text = (first_fault 1 (lines_of input) ≡ None) × (text ≡ flat_map (dis_text meaning) (lines_of input))
-IsDone Lay name input text = (pulls : List Stretch) × AreLinesRead (lines_of input) 1 no_notes (Ok pulls) × (text ≡ flat_map pull_line pulls)
+IsDone (Dis meaning form) name input text = (first_fault 1 (lines_of input) ≡ None) × (text ≡ flat_map (dis_text form meaning) (lines_of input))
+IsDone (Lay form) name input text = (pulls : List Stretch) × AreLinesRead (lines_of input) 1 no_notes (Ok pulls) × (text ≡ flat_map (pull_record form) pulls)
 IsDone (Mon mon) name input text =
     IsShown mon.folded (form_of mon.form input) name mon.inverted mon.glitch mon.margin (report_of mon.report (form_of mon.form input)) input text
 IsDone (Follow form margin report) name input text = IsReported form margin report name input text
@@ -187,11 +187,26 @@ pub record IsServed (known old new : Option (List ℕ)) (choice : CommandChoice)
 abbrev pub IsHelp : Option (List ℕ) → Option (List ℕ) → Type 0
 IsHelp old new = (text : List ℕ) × Appends old new text
 
--- What is asked for is done: the choice; of a line that asks for none a help is written.
-abbrev pub AreServedAs : Option Asked → List ℕ → Option (List ℕ) → Option (List ℕ) → Option (List ℕ) → Type 0
-AreServedAs asked name known old new =
-    MatchOption asked (IsHelp old new) (λ a. IsServed known old new a.choice name)
+-- A choice is done of several files: a report of the report of each, or what is made of them one after the other.
+abbrev pub AreServedTogether : Bool → CommandChoice → List ℕ → List (List ℕ) → (List ℕ → Option (List ℕ)) → Option (List ℕ) → Option (List ℕ) → Type 0
+AreServedTogether true choice name files held old new = WritesReports (IsDone choice name) held files old new
+AreServedTogether false choice name files held old new = IsServed (known_joined held files) old new choice name
+
+abbrev pub IsServedOfSeveral : CommandChoice → List ℕ → List (List ℕ) → (List ℕ → Option (List ℕ)) → Option (List ℕ) → Option (List ℕ) → Type 0
+IsServedOfSeveral choice name files held old new = AreServedTogether (is_report choice) choice name files held old new
+
+-- The same of its operands: of standard input where there is none, and of what one stands for as of these bytes on standard input.
+abbrev pub IsServedOf : CommandChoice → List ℕ → List (List ℕ) → Option (List ℕ) → (List ℕ → Option (List ℕ)) → Option (List ℕ) → Option (List ℕ) → Type 0
+IsServedOf choice name [] stdin held old new = IsServed (known_bytes None stdin held) old new choice name
+IsServedOf choice name (operand ∷ []) stdin held old new = IsServed (known_bytes (Some operand) stdin held) old new choice name
+IsServedOf choice name (operand ∷ next ∷ operands) stdin held old new = IsServedOfSeveral choice name (operand ∷ next ∷ operands) held old new
+
+-- What is asked for is done: the choice, of the operands; of a line that asks for none a help is written.
+abbrev pub AreServedAs : Option Asked → List ℕ → List (List ℕ) → Option (List ℕ) → (List ℕ → Option (List ℕ)) → Option (List ℕ) → Option (List ℕ) → Type 0
+AreServedAs asked name operands stdin held old new =
+    MatchOption asked (IsHelp old new) (λ a. IsServedOf a.choice name operands stdin held old new)
 
 -- What the words of a command line ask for is done.
-abbrev pub AreServed : List (List ℕ) → Option (List ℕ) → Option (List ℕ) → Option (List ℕ) → Type 0
-AreServed words known old new = AreServedAs (asked_by words) (name_of (signal_in words)) known old new
+abbrev pub AreServed : List (List ℕ) → Option (List ℕ) → (List ℕ → Option (List ℕ)) → Option (List ℕ) → Option (List ℕ) → Type 0
+AreServed words stdin held old new =
+    AreServedAs (asked_on (words_in words) (operands_in words)) (name_of (signal_in (words_in words))) (operands_in words) stdin held old new

@@ -1,4 +1,5 @@
 pub mod Tests
 pub mod CaptureTests
 pub mod Live
+pub mod Reports
 pub mod Done

@@ -30,7 +30,7 @@ pub fn input_of(choice: CommandChoice) -> Input {
         CommandChoice::Live { .. } | CommandChoice::Follow { .. } => Input::Session,
         CommandChoice::Asm
         | CommandChoice::Dis { .. }
-        | CommandChoice::Lay
+        | CommandChoice::Lay { .. }
         | CommandChoice::Mon(_)
         | CommandChoice::Json(Objects::Capture { .. }) => { Input::Lines }
         CommandChoice::Edid { source, .. } => match source {
@@ -217,10 +217,10 @@ pub fn explained(form: CaptureForm, fault: &ProgramFault) -> Option<Explained> {
         ProgramFault::Edid(fault) => return of_edid(fault),
         ProgramFault::Write(_) => Explained::Whole(WholeFault::Write),
         ProgramFault::Memory(_) => Explained::Whole(WholeFault::Memory),
-        ProgramFault::EventsRefused(_) | ProgramFault::TestsFailed(_) | ProgramFault::SweepFailed =>
-            {
-                return None;
-            }
+        ProgramFault::Open(_)
+        | ProgramFault::EventsRefused(_)
+        | ProgramFault::TestsFailed(_)
+        | ProgramFault::SweepFailed => return None,
     };
     Some(explained)
 }

@@ -11,6 +11,7 @@ use message_text::FrameLinesError;
 use program_captures::MonitorFault;
 use program_edids::EdidFault;
 use program_input::InputError;
+use program_source::OpenFault;
 use room_run::Totals;
 use room_run::emulate::EmulateError;
 use room_steps::step_run::StepRunError;
@@ -26,6 +27,9 @@ pub enum ProgramFault {
     NotUtf8,
     #[error(transparent)]
     Input(#[from] InputError),
+    /// A file that the command line names is not opened.
+    #[error(transparent)]
+    Open(#[from] OpenFault),
     /// A strict run refused events of its script. All of its output was written.
     #[error("refused events {}", .0.refused)]
     EventsRefused(Totals),

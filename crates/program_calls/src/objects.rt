@@ -1,6 +1,7 @@
 //! Objects of JSON: of a run while it runs, and of all other lines once they are all there.
 ghost use Rattle.std.specs.Prelude.{◌≡◌, false, [], OnOk};
-ghost use Rattle.program_calls.specs.Done.{Writes, WritesLines, WritesObjects, are_of_run, report_kind, report_view};
+ghost use Rattle.program_calls.specs.Done.{Writes, WritesLines, WritesObjects, are_of_run, report_view};
+ghost use Rattle.program_calls.specs.Reports.{report_kind};
 
 use crate::capture_test::test_capture;
 use crate::check::test;
@@ -23,8 +24,8 @@ struct Lines<'a> {
     input: &'a [u8],
 }
 
-// Which report lines are of: that of one run begins with its version, a sweep with an instant.
-fn report_kind(lines: &[u8]) -> ReportKind
+/// Which report lines are of: that of one run begins with its version, a sweep with an instant.
+pub(crate) fn report_kind(lines: &[u8]) -> ReportKind
     ensures { result ≡ report_kind lines.now }
 {
     if before(lines, 3) == b"TAP".as_slice() {

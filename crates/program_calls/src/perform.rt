@@ -10,13 +10,13 @@ use crate::run::{run, run_to_drives, run_to_line};
 use crate::told::Recap;
 use cli_words::{CommandChoice, Listing, MonChoice};
 use expect_sweep::ProgressHearer;
-use message_hex::dis_lines;
 use message_lay::lay_lines;
-use message_meaning::dis_with_meaning;
+use message_meaning::dis_lines;
 use message_text::asm_lines;
 use program_captures::show;
 use program_edids::edid::edid;
 use program_input::{run_parts, steps_parts};
+use record_core::Form;
 use room_driven::Wires;
 use room_steps::step_run::step_run;
 use std::alloc::Global;
@@ -32,31 +32,17 @@ fn step<W: Sink>(alloc: Global, input: &[u8], out: &mut W) -> Result<Recap, Prog
     Ok(Recap::Nothing)
 }
 
-// Writes the texts of frames.
-fn write_frames<W: Sink>(input: &[u8], out: &mut W) -> Result<Recap, ProgramFault>
-    ensures { OnOk result (Writes (CommandChoice.Dis false) [] input.now (W.contents out.old) (W.contents out.new)) }
-{
-    dis_lines(input, out)?;
-    Ok(Recap::Nothing)
-}
-
-// Writes the texts of frames, and what they mean.
-fn write_meanings<W: Sink>(input: &[u8], out: &mut W) -> Result<Recap, ProgramFault>
-    ensures { OnOk result (Writes (CommandChoice.Dis true) [] input.now (W.contents out.old) (W.contents out.new)) }
-{
-    dis_with_meaning(input, out)?;
-    Ok(Recap::Nothing)
-}
-
 #[inline(never)]
-fn disassemble<W: Sink>(meaning: bool, input: &[u8], out: &mut W) -> Result<Recap, ProgramFault>
-    ensures { OnOk result (Writes (CommandChoice.Dis meaning) [] input.now (W.contents out.old) (W.contents out.new)) }
+fn disassemble<W: Sink>(
+    meaning: bool,
+    form: Form,
+    input: &[u8],
+    out: &mut W,
+) -> Result<Recap, ProgramFault>
+    ensures { OnOk result (Writes (CommandChoice.Dis meaning form) [] input.now (W.contents out.old) (W.contents out.new)) }
 {
-    if meaning {
-        write_meanings(input, out)
-    } else {
-        write_frames(input, out)
-    }
+    dis_lines(input, form, meaning, out)?;
+    Ok(Recap::Nothing)
 }
 
 #[inline(never)]
@@ -68,10 +54,10 @@ fn assemble<W: Sink>(input: &[u8], out: &mut W) -> Result<Recap, ProgramFault>
 }
 
 #[inline(never)]
-fn lay<W: Sink>(input: &[u8], out: &mut W) -> Result<Recap, ProgramFault>
-    ensures { OnOk result (Writes CommandChoice.Lay [] input.now (W.contents out.old) (W.contents out.new)) }
+fn lay<W: Sink>(form: Form, input: &[u8], out: &mut W) -> Result<Recap, ProgramFault>
+    ensures { OnOk result (Writes (CommandChoice.Lay form) [] input.now (W.contents out.old) (W.contents out.new)) }
 {
-    lay_lines(input, out)?;
+    lay_lines(input, form, out)?;
     Ok(Recap::Nothing)
 }
 
@@ -126,8 +112,8 @@ pub fn perform<W: Sink, H: ProgressHearer>(
         CommandChoice::Step => step(alloc, input, out),
         CommandChoice::Live { .. } | CommandChoice::Follow { .. } => unreachable!(),
         CommandChoice::Asm => assemble(input, out),
-        CommandChoice::Dis { meaning } => disassemble(meaning, input, out),
-        CommandChoice::Lay => lay(input, out),
+        CommandChoice::Dis { meaning, form } => disassemble(meaning, form, input, out),
+        CommandChoice::Lay { form } => lay(form, input, out),
         CommandChoice::Mon(mon) => show_capture(alloc, mon, signal, input, out),
         CommandChoice::Json(objects) => write_json(alloc, objects, signal, input, out),
         CommandChoice::Edid {

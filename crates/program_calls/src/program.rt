@@ -1,27 +1,33 @@
-//! The program over a reader and two sinks.
-ghost use Rattle.std.specs.Prelude.{◌≡◌, ◌<◌, false, OnOk, IfOk, None, Ok, map, string_bytes};
+//! The program over files, a reader and two sinks.
+ghost use Rattle.std.specs.Prelude.{◌≡◌, ◌<◌, true, false, OnOk, IfOk, None, Ok, length, map, string_bytes};
 ghost use Rattle.std.specs.Io.KnownBytes.{Keeps};
 ghost use Rattle.text_core.specs.Buffered.{below};
 ghost use Rattle.program_captures.specs.Captures.{name_of};
 ghost use Rattle.program_captures.specs.Following.{FollowsTo};
-ghost use Rattle.program_calls.specs.Done.{AreServed, IsHelp, IsServed, Writes, is_line_by_line};
+ghost use Rattle.std.specs.Option.{option_copied};
+ghost use Rattle.program_calls.specs.Done.{AreServed, AreServedAs, IsHelp, IsServed, IsServedOf, IsServedOfSeveral, Writes, is_line_by_line};
 ghost use Rattle.program_calls.specs.Live.{Lives, LivesAs, LivesInObjects};
 ghost use Rattle.cli_words.specs.MonFlags.{signal_in};
+ghost use Rattle.cli_words.specs.Operands.{asked_on, takes};
+ghost use Rattle.program_source.specs.Source.{known_bytes, known_joined};
 
 use crate::fault::ProgramFault;
+use crate::files::{FileFault, read_files};
 use crate::live::{Explainer, LiveEnded, live, live_in_objects};
 use crate::perform::perform;
 use crate::progress::ProgressLines;
 use crate::said::{remark, report};
 use crate::status::{USAGE, write_fault};
 use crate::told::Recap;
+use crate::waited::waited_for;
 use cli_command::{Refused, choose};
-use cli_words::{Asked, CommandChoice, FollowReport, signal_in};
+use cli_words::{Asked, CommandChoice, CommandLine, FollowReport, is_report, line_of, signal_in};
 use follow_core::LineForm;
 use json_live::Halt;
 use live_dialogue::SessionError;
 use program_captures::follow_capture;
 use program_input::{limit_of, read_input};
+use program_source::{OpenFault, Opens, source_of};
 use std::alloc::{AllocError, Global};
 use std::io::Read;
 use text_core::{Buffered, Sink, WriteFault, put_all};
@@ -73,12 +79,13 @@ fn refuse<W: Sink, E: Sink>(refused: &Refused, out: &mut Buffered<W>, err: &mut 
     }
 }
 
-// What the words of a command line ask for, and the memory for it.
+/// What the words of a command line ask for, and the memory for it.
 #[derive(Clone, Copy)]
-struct Call<'a> {
-    alloc: Global,
-    words: &'a [String],
-    asked: Asked,
+pub(crate) struct Call<'a> {
+    pub alloc: Global,
+    /// Those that are no operands.
+    pub words: &'a [String],
+    pub asked: Asked,
 }
 
 // A capture that is reported as its lines come.
@@ -90,8 +97,8 @@ struct Followed<'a> {
     report: FollowReport,
 }
 
-// The name of the wire that some words name, or an empty one.
-fn signal_of(words: &[String]) -> &[u8]
+/// The name of the wire that some words name, or an empty one.
+pub(crate) fn signal_of(words: &[String]) -> &[u8]
     ensures { result.now ≡ name_of (signal_in (map string_bytes words.now)) }
 {
     match signal_in(words) {
@@ -115,7 +122,7 @@ impl Call<'_> {
     fn fail<E: Sink>(self, fault: &ProgramFault, err: &mut E) -> u8
         ensures { 0 < result }
     {
-        report(self.alloc, self.asked, fault, b"", err)
+        report(self.alloc, self.asked, None, fault, b"", err)
     }
 
     // Says why a session failed, which may be a fault of its topology. Answers the exit status.
@@ -123,7 +130,7 @@ impl Call<'_> {
         ensures { 0 < result }
     {
         let Explainer { topology, err, .. } = explainer;
-        report(self.alloc, self.asked, fault, &topology, err)
+        report(self.alloc, self.asked, None, fault, &topology, err)
     }
 
     // Does what is asked for with an input, and says how it went. Answers the exit status.
@@ -145,7 +152,7 @@ impl Call<'_> {
                 remark(alloc, asked, told, input, err);
                 0
             }
-            Err(fault) => report(alloc, asked, &fault, input, err),
+            Err(fault) => report(alloc, asked, None, &fault, input, err),
         }
     }
 
@@ -359,6 +366,120 @@ impl Call<'_> {
             _ => self.serve_input(input, out, err),
         }
     }
+
+    // Says on a terminal what is waited for, where no operand says what is read.
+    fn announce<F: Opens, E: Sink>(self, files: &F, operand: Option<&str>, err: &mut E) {
+        if operand.is_none() && files.is_typed() {
+            let _ = put_all(err, waited_for(self.asked.choice).as_bytes());
+        }
+    }
+
+    // Says why a file is not opened. Answers the exit status.
+    fn fail_open<E: Sink>(self, name: &str, fault: OpenFault, err: &mut E) -> u8
+        ensures { 0 < result }
+    {
+        let fault = ProgramFault::Open(fault);
+        report(self.alloc, self.asked, Some(name), &fault, b"", err)
+    }
+
+    // Does what is asked for with what an operand stands for.
+    fn serve_operand<F: Opens, R: Read, W: Sink, E: Sink>(
+        self,
+        files: &F,
+        operand: Option<&str>,
+        input: &mut R,
+        out: W,
+        err: &mut E,
+    ) -> ProgramEnd<W>
+        ensures { result.status ≡ 0 → IsServed (known_bytes (option_copied operand.entry) (R.remaining input.old) (F.held files.now)) (W.contents out) (W.contents result.out) self.entry.asked.choice (name_of (signal_in (map string_bytes self.entry.words.now))) }
+    {
+        self.announce(files, operand, err);
+        match source_of(files, operand, input) {
+            Ok(source) => {
+                let mut source = source;
+                self.serve(&mut source, out, err)
+            }
+            Err(fault) => ProgramEnd {
+                status: self.fail_open(operand.unwrap_or("-"), fault, err),
+                out,
+            },
+        }
+    }
+
+    // Does what is asked for with files, one after the other. Answers the exit status.
+    fn answer_joined<F: Opens, W: Sink, E: Sink>(
+        self,
+        files: &F,
+        names: &[String],
+        out: &mut Buffered<W>,
+        err: &mut E,
+    ) -> u8
+        requires { is_line_by_line self.asked.choice ≡ false }
+        ensures { result ≡ 0 → IsServed (known_joined (F.held files.now) (map string_bytes names.now)) (⟦<Buffered<W> as Sink>⟧.contents out.old) (W.contents (below out.new)) self.entry.asked.choice (name_of (signal_in (map string_bytes self.entry.words.now))) }
+    {
+        match read_files(self.alloc, limit_of(self.asked.choice), files, names) {
+            Ok(input) => self.answer(signal_of(self.words), &input, out, err),
+            Err(FileFault { name, fault }) => {
+                report(self.alloc, self.asked, Some(name), &fault, b"", err)
+            }
+        }
+    }
+
+    // The same, and how it ended.
+    fn serve_joined<F: Opens, W: Sink, E: Sink>(
+        self,
+        files: &F,
+        names: &[String],
+        out: W,
+        err: &mut E,
+    ) -> ProgramEnd<W>
+        requires { is_line_by_line self.asked.choice ≡ false }
+        ensures { result.status ≡ 0 → IsServed (known_joined (F.held files.now) (map string_bytes names.now)) (W.contents out) (W.contents result.out) self.entry.asked.choice (name_of (signal_in (map string_bytes self.entry.words.now))) }
+    {
+        let mut out = Buffered::new(out);
+        let status = self.answer_joined(files, names, &mut out, err);
+        ProgramEnd {
+            status,
+            out: out.into_below(),
+        }
+    }
+
+    // Does what is asked for with several files.
+    fn serve_files<F: Opens, W: Sink, E: Sink>(
+        self,
+        files: &F,
+        names: &[String],
+        out: W,
+        err: &mut E,
+    ) -> ProgramEnd<W>
+        requires { is_line_by_line self.asked.choice ≡ false }
+        ensures { result.status ≡ 0 → IsServedOfSeveral self.entry.asked.choice (name_of (signal_in (map string_bytes self.entry.words.now))) (map string_bytes names.now) (F.held files.now) (W.contents out) (W.contents result.out) }
+    {
+        if is_report(self.asked.choice) {
+            self.serve_reports(files, names, out, err)
+        } else {
+            self.serve_joined(files, names, out, err)
+        }
+    }
+
+    // Does what is asked for with some operands.
+    fn serve_operands<F: Opens, R: Read, W: Sink, E: Sink>(
+        self,
+        files: &F,
+        operands: &[String],
+        input: &mut R,
+        out: W,
+        err: &mut E,
+    ) -> ProgramEnd<W>
+        requires { takes self.asked.choice (length (map string_bytes operands.now)) ≡ true }
+        ensures { result.status ≡ 0 → IsServedOf self.entry.asked.choice (name_of (signal_in (map string_bytes self.entry.words.now))) (map string_bytes operands.now) (R.remaining input.old) (F.held files.now) (W.contents out) (W.contents result.out) }
+    {
+        match operands {
+            [] => self.serve_operand(files, None, input, out, err),
+            [operand] => self.serve_operand(files, Some(operand.as_str()), input, out, err),
+            names => self.serve_files(files, names, out, err),
+        }
+    }
 }
 
 // Says why a command line is refused, or shows the help that it asks for.
@@ -373,39 +494,49 @@ fn decline<W: Sink, E: Sink>(refused: &Refused, out: W, err: &mut E) -> ProgramE
     }
 }
 
-// Does what the words of a command line ask for.
-fn act<R: Read, W: Sink, E: Sink>(
+// Does what a command line asks for.
+fn act<F: Opens, R: Read, W: Sink, E: Sink>(
     alloc: Global,
+    files: &F,
     words: &[String],
+    line: &CommandLine,
     input: &mut R,
     out: W,
     err: &mut E,
 ) -> ProgramEnd<W>
-    ensures { result.status ≡ 0 → AreServed (map string_bytes words.now) (R.remaining input.old) (W.contents out) (W.contents result.out) }
+    ensures { result.status ≡ 0 → AreServedAs (asked_on (map string_bytes line.now.words.items) (map string_bytes line.now.operands.items)) (name_of (signal_in (map string_bytes line.now.words.items))) (map string_bytes line.now.operands.items) (R.remaining input.old) (F.held files.now) (W.contents out) (W.contents result.out) }
 {
-    match choose(alloc, words) {
+    match choose(alloc, words, line) {
         Ok(asked) => Call {
             alloc,
-            words,
+            words: &line.words,
             asked,
         }
-        .serve(input, out, err),
+        .serve_operands(files, &line.operands, input, out, err),
         Err(refused) => decline(&refused, out, err),
     }
 }
 
-/// The whole program. `words` has the program's name first.
+/// The whole program. `words` has the program's name first; `files` opens what they name.
 ///
-/// With status 0 what was asked for is done: the bytes that `out` holds have grown by the text that the choice makes of all
-/// that `input` had, and by nothing else.
-pub fn program<R: Read, W: Sink, E: Sink>(
+/// With status 0 what was asked for is done: the bytes that `out` holds have grown by the text that the choice makes of all that
+/// its input had, and by nothing else. The input is `input`, or the file that the words name; several files are tested one by
+/// one, or read one after the other.
+pub fn program<F: Opens, R: Read, W: Sink, E: Sink>(
     alloc: Global,
+    files: &F,
     words: Vec<String>,
     input: &mut R,
     out: W,
     err: &mut E,
 ) -> ProgramEnd<W>
-    ensures { result.status ≡ 0 → AreServed (map string_bytes words.items) (R.remaining input.old) (W.contents out) (W.contents result.out) }
+    ensures { result.status ≡ 0 → AreServed (map string_bytes words.items) (R.remaining input.old) (F.held files.now) (W.contents out) (W.contents result.out) }
 {
-    act(alloc, &words, input, out, err)
+    match line_of(alloc, &words) {
+        Ok(line) => act(alloc, files, &words, &line, input, out, err),
+        Err(AllocError) => ProgramEnd {
+            status: write_fault(&ProgramFault::Memory(AllocError), err),
+            out,
+        },
+    }
 }

@@ -7,13 +7,13 @@ use crate::told::Recap;
 use capture_forms::CaptureForm;
 use cli_words::{CommandChoice, Listing, Objects};
 use json_room::RoomLines;
-use json_run::emulate_objects;
-use json_trace::PlainLines;
+use json_run::emulate_objects as emulate_room;
 use program_input::run_parts;
 use room_driven::{Wires, emulate_drives};
 use room_run::Totals;
 use room_run::emulate::emulate;
 use room_run::line::emulate_line;
+use room_run::objects::emulate_objects;
 use std::alloc::Global;
 use text_core::Sink;
 
@@ -87,7 +87,7 @@ pub fn run_to_objects<W: Sink>(
     ensures { OnOk result (Writes (CommandChoice.Json (Objects.Trace strict)) [] input.now (W.contents out.old) (W.contents out.new)) }
 {
     let (topology, script) = run_parts(input)?;
-    let totals = emulate_objects(alloc, topology, script, PlainLines, out)?;
+    let totals = emulate_objects(alloc, topology, script, out)?;
     accepted(totals, strict)
 }
 
@@ -102,7 +102,7 @@ pub fn run_to_room<W: Sink>(
     ensures { OnOk result (Writes (CommandChoice.Json (Objects.Room strict)) [] input.now (W.contents out.old) (W.contents out.new)) }
 {
     let (topology, script) = run_parts(input)?;
-    let totals = emulate_objects(
+    let totals = emulate_room(
         alloc,
         topology,
         script,

@@ -3,7 +3,7 @@ ghost use Rattle.std.specs.Prelude.{◌<◌};
 
 use crate::explained::{explained, form_in, input_of};
 use crate::fault::ProgramFault;
-use crate::status::write_fault;
+use crate::status::{write_fault, write_fault_of};
 use crate::told::Recap;
 use capture_forms::CaptureForm;
 use cli_words::{Asked, CommandChoice, MonChoice, Objects, View};
@@ -50,7 +50,7 @@ fn rules_of(alloc: Global, choice: CommandChoice, input: &[u8]) -> Result<String
         CommandChoice::Edid {
             source,
             reading,
-            view: View::Findings(place),
+            view: View::Findings(place, _),
         } => explain_rules(alloc, source, reading, place, input),
         _ => Ok(String::new(alloc)),
     }
@@ -155,10 +155,11 @@ fn name_lost_by<E: Sink>(
     }
 }
 
-/// Writes the line of a fault, and what follows it.
+/// Writes the line of a fault, with the name of its file where one is given, and what follows it.
 pub fn report<E: Sink>(
     alloc: Global,
     asked: Asked,
+    name: Option<&str>,
     fault: &ProgramFault,
     input: &[u8],
     err: &mut E,
@@ -166,7 +167,10 @@ pub fn report<E: Sink>(
     ensures { 0 < result }
 {
     name_read(alloc, asked.choice, input, err);
-    let status = write_fault(fault, err);
+    let status = match name {
+        Some(name) => write_fault_of(name, fault, err),
+        None => write_fault(fault, err),
+    };
     name_lost_by(alloc, asked.choice, fault, input, err);
     if asked.explains {
         add_help(explanation(alloc, asked.choice, fault, input), err);

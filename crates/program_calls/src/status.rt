@@ -13,7 +13,7 @@ use program_edids::EdidFault;
 use program_input::InputError;
 use room_run::emulate::EmulateError;
 use std::fmt::Write;
-use text_core::{Sink, put_all};
+use text_core::{Piece, Sink, put_all, write_pieces};
 
 /// The input is refused, or what was done is not as it was wanted: an event of a strict run was refused, a strict audit has a
 /// remark, a test failed.
@@ -38,7 +38,8 @@ impl ProgramFault {
     {
         match self {
             ProgramFault::NotUtf8 => USAGE,
-            ProgramFault::Input(InputError::Read | InputError::TooLong)
+            ProgramFault::Open(_)
+            | ProgramFault::Input(InputError::Read | InputError::TooLong)
             | ProgramFault::Capture(
                 MonitorFault::Read | MonitorFault::TooLong | MonitorFault::Write(_),
             )
@@ -90,5 +91,22 @@ pub fn write_fault<E: Sink>(fault: &ProgramFault, err: &mut E) -> u8
     let mut text = ArrayString::<256>::new();
     let _ = writeln!(text, "hdminet: {fault}");
     let _ = put_all(err, text.as_bytes());
+    fault.status()
+}
+
+/// The same of the file of this name.
+pub(crate) fn write_fault_of<E: Sink>(name: &str, fault: &ProgramFault, err: &mut E) -> u8
+    ensures { 0 < result }
+{
+    let mut text = ArrayString::<256>::new();
+    let _ = writeln!(text, ": {fault}");
+    let _ = write_pieces(
+        err,
+        &[
+            Piece::Text("hdminet: "),
+            Piece::Text(name),
+            Piece::Bytes(text.as_bytes()),
+        ],
+    );
     fault.status()
 }

@@ -5,7 +5,7 @@ use Rattle.edid_core.specs.Bytes.{edid_bytes}
 use Rattle.edid_core.specs.declared.edid.Edid.{Edid}
 use Rattle.conversion_calls.specs.Passing.{IsPassedOn}
 use Rattle.conversion_calls.specs.declared.passing.Passing.{Passing}
-use Rattle.rules_check.specs.declared.rule.Origin.TheVariants as origins
+use Rattle.record_core.specs.declared.cell.Form.{Form}
 use Rattle.edid_dumps.specs.Nth.{nth_in_dump}
 use Rattle.edid_merge.specs.Merge.{IsAnswer}
 use Rattle.edid_merge.specs.Speakers.{IsSpoken}
@@ -34,14 +34,13 @@ pub spoken_whole : (port : ℕ) (shape : EdidShape) (bytes given : List ℕ) (ol
 spoken_whole port shape bytes given old new (p, passed, spoken) (text, (e, spelled, shown), appended) =
     (text, (e, (p, passed, subst (λ (b : List ℕ). IsSpoken (edid_bytes p) b) (sym spelled) spoken), shown), appended)
 
-pub spoken_rules : (port : ℕ) (bytes given : List ℕ) (old new : Option (List ℕ)) → IsSpokenIn port bytes given → ShowsOwn origins.Port given old new
-    → Shows (Findings (Port port Spoken)) bytes old new
-spoken_rules port bytes given old new (p, passed, spoken) (text, (e, spelled, found), appended) =
-    (text, (e, (p, passed, subst (λ (b : List ℕ). IsSpoken (edid_bytes p) b) (sym spelled) spoken), found.0, found.1), appended)
+pub own_rules : (place : Recipient) (form : Form) (bytes given : List ℕ) (old new : Option (List ℕ)) → IsGiven place bytes given
+    → ShowsOwn (origin_of place) form given old new → Shows (Findings place form) bytes old new
+own_rules place form bytes given old new there (text, found, appended) = (text, (given, there, found), appended)
 
-pub counted_rules : (count : ℕ) (place : Recipient) (bytes given : List ℕ) (old new : Option (List ℕ)) → IsGiven place bytes given
-    → ShowsJudged (origin_of place) count bytes given old new → ShowsCounted count (Findings place) bytes old new
-counted_rules count place bytes given old new there (text, judged, appended) = (text, (given, there, judged), appended)
+pub counted_rules : (count : ℕ) (place : Recipient) (form : Form) (bytes given : List ℕ) (old new : Option (List ℕ)) → IsGiven place bytes given
+    → ShowsJudged (origin_of place) form count bytes given old new → ShowsCounted count (Findings place form) bytes old new
+counted_rules count place form bytes given old new there (text, judged, appended) = (text, (given, there, judged), appended)
 
 -- the two dumps
 pub dumps_read : (table : Table) (text display own given : List ℕ) → nth_in_dump 1 text ≡ Ok display → nth_in_dump 2 text ≡ Ok own → IsAnswer table display own given

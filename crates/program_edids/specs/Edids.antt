@@ -7,10 +7,10 @@ use Rattle.edid_core.specs.Bytes.{edid_bytes}
 use Rattle.edid_core.specs.declared.edid.Edid.{Edid}
 use Rattle.edid_core.specs.declared.passing.AudioFrom.TheVariants.{Television, Amplifier}
 use Rattle.rules_check.specs.Findings.{findings}
-use Rattle.rules_check.specs.Text.{findings_text, some_failure}
+use Rattle.rules_check.specs.Text.{some_failure}
+use Rattle.rules_records.specs.Records.{findings_record}
 use Rattle.rules_check.specs.declared.rule.Origin.{Origin}
 use Rattle.rules_check.specs.declared.rule.Origin.TheVariants as origins
-use Rattle.conversion_calls.specs.EdidFindings.{faults_of}
 use Rattle.conversion_calls.specs.Form.{form_text, hex_line}
 use Rattle.conversion_calls.specs.PassedOn.{Reports, address_line}
 use Rattle.conversion_calls.specs.Passing.{IsPassedOn}
@@ -35,6 +35,7 @@ use Rattle.edid_merge.specs.Speakers.{IsSpoken}
 use Rattle.edid_as_source.specs.Count.{counted, first_count, with_count}
 use Rattle.edid_as_source.specs.Source.{as_source}
 use Rattle.edid_spelling.specs.Canonical.{canonical_text}
+use Rattle.record_core.specs.declared.cell.Form.{Form}
 use Rattle.cli_words.specs.declared.choice.EdidReading.{EdidReading}
 use Rattle.cli_words.specs.declared.choice.EdidReading.TheVariants.{Strict, Overridden, AsSource}
 use Rattle.cli_words.specs.declared.choice.Recipient.{Recipient}
@@ -101,33 +102,36 @@ IsAddress bytes text = (a : Phys) × Reports bytes (Some a) × (text ≡ address
 abbrev pub IsReadout : List ℕ → List ℕ → Type 0
 IsReadout bytes text = (e : Edid) × (edid_bytes e ≡ bytes) × (text ≡ readout_text bytes)
 
+-- What is found of an EDID of these parts is written, and none of it is a failure.
+abbrev pub IsFound : Origin → Form → Base → List Ext → List ℕ → Type 0
+IsFound origin form base extensions text = (text ≡ findings_record form (findings origin base extensions)) × (some_failure (findings origin base extensions) ≡ false)
+
+-- the same of the EDID of some bytes
+abbrev pub IsFoundIn : Origin → Form → List ℕ → List ℕ → Type 0
+IsFoundIn origin form bytes text = (e : Edid) × (edid_bytes e ≡ bytes) × IsFound origin form e.base e.extensions.items text
+
 -- The text that a view of the EDID of some bytes is. Of rules that are broken it is all, and none of them is a failure.
 abbrev pub IsShown : View → List ℕ → List ℕ → Type 0
 IsShown (Whole place shape) bytes text = (e : Edid) × IsFor place bytes e × (text ≡ form_text (form_of shape) e)
 IsShown (Meaning place) bytes text = (given : List ℕ) × IsGiven place bytes given × IsMeant given text
-IsShown (Findings place) bytes text =
-    (e : Edid) × IsFor place bytes e × (text ≡ findings_text (faults_of (origin_of place) e)) × (some_failure (faults_of (origin_of place) e) ≡ false)
+IsShown (Findings place form) bytes text = (given : List ℕ) × IsGiven place bytes given × IsFoundIn (origin_of place) form given text
 IsShown (Address place) bytes text = (given : List ℕ) × IsGiven place bytes given × IsAddress given text
 IsShown (Readout place) bytes text = (given : List ℕ) × IsGiven place bytes given × IsReadout given text
 
--- What is found of an EDID of these parts is written, and none of it is a failure.
-abbrev pub IsFound : Origin → Base → List Ext → List ℕ → Type 0
-IsFound origin base extensions text = (text ≡ findings_text (findings origin base extensions)) × (some_failure (findings origin base extensions) ≡ false)
-
-abbrev pub ShowsFound : Origin → Base → List Ext → Option (List ℕ) → Option (List ℕ) → Type 0
-ShowsFound origin base extensions old new = (text : List ℕ) × IsFound origin base extensions text × Appends old new text
+abbrev pub ShowsFound : Origin → Form → Base → List Ext → Option (List ℕ) → Option (List ℕ) → Type 0
+ShowsFound origin form base extensions old new = (text : List ℕ) × IsFound origin form base extensions text × Appends old new text
 
 -- of the EDID of some bytes
-abbrev pub ShowsOwn : Origin → List ℕ → Option (List ℕ) → Option (List ℕ) → Type 0
-ShowsOwn origin bytes old new = (text : List ℕ) × ((e : Edid) × (edid_bytes e ≡ bytes) × IsFound origin e.base e.extensions.items text) × Appends old new text
+abbrev pub ShowsOwn : Origin → Form → List ℕ → Option (List ℕ) → Option (List ℕ) → Type 0
+ShowsOwn origin form bytes old new = (text : List ℕ) × IsFoundIn origin form bytes text × Appends old new text
 
 -- of the EDID of some bytes, judged by a base block that counts its extensions otherwise, as others do
-abbrev pub IsJudged : Origin → ℕ → List ℕ → List ℕ → List ℕ → Type 0
-IsJudged origin count front bytes text =
-    (e : Edid) × (edid_bytes e ≡ bytes) × (b : Base) × (base_bytes b ≡ take 128 (with_count front count)) × IsFound origin b e.extensions.items text
+abbrev pub IsJudged : Origin → Form → ℕ → List ℕ → List ℕ → List ℕ → Type 0
+IsJudged origin form count front bytes text =
+    (e : Edid) × (edid_bytes e ≡ bytes) × (b : Base) × (base_bytes b ≡ take 128 (with_count front count)) × IsFound origin form b e.extensions.items text
 
-abbrev pub ShowsJudged : Origin → ℕ → List ℕ → List ℕ → Option (List ℕ) → Option (List ℕ) → Type 0
-ShowsJudged origin count front bytes old new = (text : List ℕ) × IsJudged origin count front bytes text × Appends old new text
+abbrev pub ShowsJudged : Origin → Form → ℕ → List ℕ → List ℕ → Option (List ℕ) → Option (List ℕ) → Type 0
+ShowsJudged origin form count front bytes old new = (text : List ℕ) × IsJudged origin form count front bytes text × Appends old new text
 
 -- The bytes of an EDID for a device, with another count in byte 126.
 abbrev pub IsRecounted : ℕ → Recipient → List ℕ → List ℕ → Type 0
@@ -141,7 +145,7 @@ IsShownCounted count (Whole place shapes.Bytes) bytes text = (new : List ℕ) ×
 IsShownCounted count (Readout place) bytes text = (new : List ℕ) × IsRecounted count place bytes new × (text ≡ readout_text new)
 IsShownCounted count (Whole place shapes.Text) bytes text = IsShown (Whole place shapes.Text) bytes text
 IsShownCounted count (Meaning place) bytes text = IsShown (Meaning place) bytes text
-IsShownCounted count (Findings place) bytes text = (given : List ℕ) × IsGiven place bytes given × IsJudged (origin_of place) count bytes given text
+IsShownCounted count (Findings place form) bytes text = (given : List ℕ) × IsGiven place bytes given × IsJudged (origin_of place) form count bytes given text
 IsShownCounted count (Address place) bytes text = IsShown (Address place) bytes text
 
 -- A view of the bytes that an input gives, as they are read.
@@ -150,15 +154,9 @@ IsShownAs Strict count view given text = IsShown view given text
 IsShownAs Overridden count view given text = (bytes : List ℕ) × (counted given ≡ Ok bytes) × IsShownCounted count view bytes text
 IsShownAs AsSource count view given text = (bytes : List ℕ) × (as_source given ≡ Ok bytes) × IsShown view bytes text
 
--- what is passed on is written, and nothing else; and the rules that it breaks
+-- what is passed on is written, and nothing else
 abbrev pub ShowsPassed : Passing → EdidShape → List ℕ → Option (List ℕ) → Option (List ℕ) → Type 0
 ShowsPassed passing shape bytes old new = (text : List ℕ) × ((e : Edid) × IsPassedOn bytes passing e × (text ≡ form_text (form_of shape) e)) × Appends old new text
-
-abbrev pub ShowsRules : Passing → List ℕ → Option (List ℕ) → Option (List ℕ) → Type 0
-ShowsRules passing bytes old new =
-    (text : List ℕ)
-    × ((e : Edid) × IsPassedOn bytes passing e × (text ≡ findings_text (faults_of origins.Port e)) × (some_failure (faults_of origins.Port e) ≡ false))
-    × Appends old new text
 
 -- two EDIDs one after the other: the first is as long as its byte 126 counts
 abbrev pub display_half : List ℕ → List ℕ

@@ -2,7 +2,7 @@
 ghost use Rattle.std.specs.Prelude.{◌≡◌, ℕ, List, OnOk, IfOk};
 ghost use Rattle.edid_core.specs.Bytes.{edid_bytes};
 ghost use Rattle.edid_core.specs.declared.edid.Edid.{Edid as EdidValue};
-ghost use Rattle.program_edids.specs.Edids.{IsGiven, IsRecounted, IsSpokenIn, Made, Shows, ShowsAs, ShowsCounted, ShowsPassed, ShowsRules, at, form_of, in_port, origin_of};
+ghost use Rattle.program_edids.specs.Edids.{IsGiven, IsRecounted, IsSpokenIn, Made, Shows, ShowsAs, ShowsCounted, ShowsPassed, at, form_of, in_port, origin_of};
 ghost use Rattle.std.specs.Io.KnownBytes.{Appends};
 ghost use Rattle.text_core.specs.Written.{WrittenAll};
 ghost use Rattle.conversion_calls.specs.Passing.{IsPassedOn};
@@ -11,18 +11,18 @@ ghost use Rattle.conversion_calls.specs.Form.{hex_line};
 
 use crate::edid_fault::EdidFault;
 use crate::edid_given::{given_of, kept_count};
-use crate::edid_judged::{unless_failed, write_counted_rules, write_own_rules};
+use crate::edid_judged::{write_counted_rules, write_own_rules};
 use arrayvec::ArrayVec;
 use cli_words::{EdidReading, EdidShape, Recipient, Sound, Source, View};
 use conversion_calls::{
-    Destination as PassedTo, EdidForm, Passing, check_passed_on, edid_to_findings, edid_to_text,
-    write_address, write_passed_on,
+    Destination as PassedTo, EdidForm, Passing, edid_to_text, write_address, write_passed_on,
 };
 use conversion_notes::edid_to_meaning;
 use edid_as_source::{as_source, counted, with_count};
 use edid_core::{AudioFrom, EdidError, read_parts};
 use edid_ddc::{Ddc, DdcError, write_readout};
 use edid_merge::with_speakers;
+use record_core::Form;
 use rules_check::Origin;
 use std::alloc::{AllocError, Global};
 use text_core::{Held, Phys, Piece, Sink, WriteFault, put_all, write_line};
@@ -150,22 +150,6 @@ fn spoken_bytes(alloc: Global, port: u8, bytes: &[u8]) -> Result<Vec<u8>, EdidFa
     }
 }
 
-// Writes the rules that the EDID of some bytes breaks.
-fn check_own<W: Sink>(bytes: &[u8], out: &mut W) -> Result<(), EdidFault>
-    ensures { OnOk result (Shows (View.Findings Recipient.Own) bytes.now (W.contents out.old) (W.contents out.new)) }
-{
-    let fails = edid_to_findings(bytes, out)?;
-    unless_failed(fails)
-}
-
-// Writes the rules that what is passed on of it breaks.
-fn check_passed<W: Sink>(bytes: &[u8], passing: Passing, out: &mut W) -> Result<(), EdidFault>
-    ensures { OnOk result (ShowsRules passing bytes.now (W.contents out.old) (W.contents out.new)) }
-{
-    let fails = check_passed_on(bytes, passing, out)?;
-    unless_failed(fails)
-}
-
 // The bytes that are passed on of the EDID of some bytes.
 fn passed_bytes(alloc: Global, passing: Passing, bytes: &[u8]) -> Result<Vec<u8>, EdidFault>
     ensures { IfOk result (λ passed. (e : EdidValue) × IsPassedOn bytes.now passing e × (passed.items ≡ edid_bytes e)) }
@@ -271,34 +255,17 @@ impl Blocks<'_> {
         }
     }
 
-    // Writes the rules that it breaks in a port, with the speakers of an amplifier.
-    fn check_spoken<W: Sink>(self, port: u8, out: &mut W) -> Result<(), EdidFault>
-        ensures { OnOk result (Shows (View.Findings (Recipient.Port port Sound.Spoken)) self.entry.bytes.now (W.contents out.old) (W.contents out.new)) }
-    {
-        let given = spoken_bytes(self.alloc, port, self.bytes)?;
-        write_own_rules(Origin::Port, given.as_slice(), out)
-    }
-
-    // Writes the rules that what is passed on of it in a port breaks.
-    fn check_in_port<W: Sink>(self, port: u8, sound: Sound, out: &mut W) -> Result<(), EdidFault>
-        ensures { OnOk result (Shows (View.Findings (Recipient.Port port sound)) self.entry.bytes.now (W.contents out.old) (W.contents out.new)) }
-    {
-        match sound {
-            Sound::Kept => check_passed(self.bytes, in_port(port, false), out),
-            Sound::Amplified => check_passed(self.bytes, in_port(port, true), out),
-            Sound::Spoken => self.check_spoken(port, out),
-        }
-    }
-
     // Writes the rules that the EDID breaks, for a device.
-    fn write_rules<W: Sink>(self, place: Recipient, out: &mut W) -> Result<(), EdidFault>
-        ensures { OnOk result (Shows (View.Findings place) self.entry.bytes.now (W.contents out.old) (W.contents out.new)) }
+    fn write_rules<W: Sink>(
+        self,
+        place: Recipient,
+        form: Form,
+        out: &mut W,
+    ) -> Result<(), EdidFault>
+        ensures { OnOk result (Shows (View.Findings place form) self.entry.bytes.now (W.contents out.old) (W.contents out.new)) }
     {
-        match place {
-            Recipient::Own => check_own(self.bytes, out),
-            Recipient::At(address) => check_passed(self.bytes, at(address), out),
-            Recipient::Port { port, sound } => self.check_in_port(port, sound, out),
-        }
+        let given = given_to(self.alloc, place, self.bytes)?;
+        write_own_rules(origin_of(place), form, given.as_slice(), out)
     }
 
     // Writes the text of the EDID, for a device, with what it means.
@@ -333,7 +300,7 @@ impl Blocks<'_> {
     {
         match view {
             View::Whole(place, shape) => self.write_whole(place, shape, out),
-            View::Findings(place) => self.write_rules(place, out),
+            View::Findings(place, form) => self.write_rules(place, form, out),
             View::Meaning(place) => self.write_meaning(place, out),
             View::Address(place) => self.write_place(place, out),
             View::Readout(place) => self.write_ddc(place, out),
@@ -397,12 +364,20 @@ impl Blocks<'_> {
         self,
         count: u8,
         place: Recipient,
+        form: Form,
         out: &mut W,
     ) -> Result<(), EdidFault>
-        ensures { OnOk result (ShowsCounted count (View.Findings place) self.entry.bytes.now (W.contents out.old) (W.contents out.new)) }
+        ensures { OnOk result (ShowsCounted count (View.Findings place form) self.entry.bytes.now (W.contents out.old) (W.contents out.new)) }
     {
         let given = given_to(self.alloc, place, self.bytes)?;
-        write_counted_rules(origin_of(place), count, self.bytes, given.as_slice(), out)
+        write_counted_rules(
+            origin_of(place),
+            form,
+            count,
+            self.bytes,
+            given.as_slice(),
+            out,
+        )
     }
 
     // Writes the EDID, for a device. Bytes that are written have this count in byte 126.
@@ -429,7 +404,7 @@ impl Blocks<'_> {
     {
         match view {
             View::Whole(place, shape) => self.show_counted_whole(count, place, shape, out),
-            View::Findings(place) => self.check_counted(count, place, out),
+            View::Findings(place, form) => self.check_counted(count, place, form, out),
             View::Meaning(place) => self.write_meaning(place, out),
             View::Address(place) => self.write_place(place, out),
             View::Readout(place) => self.write_counted_ddc(count, place, out),

@@ -10,7 +10,9 @@ use edid_as_source::with_count;
 use edid_base::{Base, part, read_base};
 use edid_core::{EdidError, read_parts};
 use edid_cta::Ext;
-use rules_check::{Origin, check, has_failure, write_findings};
+use record_core::Form;
+use rules_check::{Origin, check, has_failure};
+use rules_records::write_findings;
 use text_core::Sink;
 
 /// The fewest and the most bytes of an EDID.
@@ -18,8 +20,8 @@ const LEAST: usize = 128;
 
 const MOST: usize = 512;
 
-/// Nothing, unless a rule fails.
-pub fn unless_failed(fails: bool) -> Result<(), EdidFault>
+// Nothing, unless a rule fails.
+fn unless_failed(fails: bool) -> Result<(), EdidFault>
     ensures { OnOk result (fails ≡ false) }
 {
     if fails {
@@ -31,27 +33,33 @@ pub fn unless_failed(fails: bool) -> Result<(), EdidFault>
 // Writes the rules that an EDID of these parts breaks.
 fn write_found<W: Sink>(
     origin: Origin,
+    form: Form,
     base: &Base,
     extensions: &[Ext],
     out: &mut W,
 ) -> Result<(), EdidFault>
     requires { length extensions.now ≤ 3 }
-    ensures { OnOk result (ShowsFound origin base.now extensions.now (W.contents out.old) (W.contents out.new)) }
+    ensures { OnOk result (ShowsFound origin form base.now extensions.now (W.contents out.old) (W.contents out.new)) }
 {
     let found = check(origin, base, extensions);
-    write_findings(out, found.as_slice())?;
+    write_findings(out, form, found.as_slice())?;
     unless_failed(has_failure(found.as_slice()))
 }
 
 /// Writes the rules that the EDID of some bytes breaks.
 #[inline(never)]
-pub fn write_own_rules<W: Sink>(origin: Origin, bytes: &[u8], out: &mut W) -> Result<(), EdidFault>
-    ensures { OnOk result (ShowsOwn origin bytes.now (W.contents out.old) (W.contents out.new)) }
+pub fn write_own_rules<W: Sink>(
+    origin: Origin,
+    form: Form,
+    bytes: &[u8],
+    out: &mut W,
+) -> Result<(), EdidFault>
+    ensures { OnOk result (ShowsOwn origin form bytes.now (W.contents out.old) (W.contents out.new)) }
 {
     let mut extensions = ArrayVec::new();
     match &read_parts(bytes, &mut extensions) {
         Err(cause) => Err(EdidFault::Edid(*cause)),
-        Ok(base) => write_found(origin, base, extensions.as_slice(), out),
+        Ok(base) => write_found(origin, form, base, extensions.as_slice(), out),
     }
 }
 
@@ -72,17 +80,18 @@ fn counted_base(count: u8, bytes: &[u8]) -> Result<Base, EdidFault>
 #[inline(never)]
 pub fn write_counted_rules<W: Sink>(
     origin: Origin,
+    form: Form,
     count: u8,
     front: &[u8],
     bytes: &[u8],
     out: &mut W,
 ) -> Result<(), EdidFault>
-    ensures { OnOk result (ShowsJudged origin count front.now bytes.now (W.contents out.old) (W.contents out.new)) }
+    ensures { OnOk result (ShowsJudged origin form count front.now bytes.now (W.contents out.old) (W.contents out.new)) }
 {
     let base = counted_base(count, front)?;
     let mut extensions = ArrayVec::new();
     match read_parts(bytes, &mut extensions) {
         Err(cause) => Err(EdidFault::Edid(cause)),
-        Ok(_shown) => write_found(origin, &base, extensions.as_slice(), out),
+        Ok(_shown) => write_found(origin, form, &base, extensions.as_slice(), out),
     }
 }

@@ -40,7 +40,7 @@ pub fn limit_of(choice: CommandChoice) -> usize {
         | CommandChoice::Follow { .. }
         | CommandChoice::Asm
         | CommandChoice::Dis { .. }
-        | CommandChoice::Lay
+        | CommandChoice::Lay { .. }
         | CommandChoice::Edid { .. } => LIMIT,
     }
 }

@@ -1,5 +1,6 @@
 //! What the program does, over readers and writers that it is handed.
 use program_calls::program::program;
+use program_source::{Opens, Shelf};
 use std::io::{self, ErrorKind, Read, Write};
 use std::process::Abort;
 use text_core::Writes;
@@ -19,6 +20,7 @@ mod example_lines;
 mod example_reports;
 mod examples;
 mod expectations;
+mod files;
 mod flags;
 mod frames;
 mod hostile;
@@ -85,10 +87,11 @@ fn words(rt: &(impl Abort + AllocGlobal), line: &str) -> Vec<String> {
     words
 }
 
-/// Runs the program with the words of this line, into a writer with this room, if it is bounded.
-fn reported_of<R: Read + Drop>(
+/// Runs the program with these words and files, into a writer with this room, if it is bounded.
+fn reported_from<F: Opens, R: Read + Drop>(
     rt: &(impl Abort + AllocGlobal),
-    line: &str,
+    files: &F,
+    words: Vec<String>,
     mut input: R,
     room: Option<usize>,
 ) -> Answer {
@@ -100,7 +103,8 @@ fn reported_of<R: Read + Drop>(
     let mut err = Vec::new(alloc);
     let status = program(
         alloc,
-        words(rt, line),
+        files,
+        words,
         &mut input,
         Writes::new(&mut out),
         &mut Writes::new(&mut err),
@@ -111,6 +115,20 @@ fn reported_of<R: Read + Drop>(
         out: out.bytes,
         err,
     }
+}
+
+/// The same with the words of this line, and no file.
+fn reported_of<R: Read + Drop>(
+    rt: &(impl Abort + AllocGlobal),
+    line: &str,
+    input: R,
+    room: Option<usize>,
+) -> Answer {
+    let files = Shelf {
+        files: &[],
+        is_typed: false,
+    };
+    reported_from(rt, &files, words(rt, line), input, room)
 }
 
 /// The program ended with this status, and wrote this to standard output and this to standard error.

@@ -19,10 +19,10 @@ use Rattle.edid_core.proofs.OneEdid.{one_edid}
 use Rattle.edid_core.specs.Root.{IsRoot}
 use Rattle.room_run.specs.declared.run.Reporting.{Reporting}
 use Rattle.capture_forms.specs.declared.form.CaptureForm.{CaptureForm}
-use Rattle.room_run.specs.declared.run.Reporting.TheVariants.{Trace, Line}
+use Rattle.room_run.specs.declared.run.Reporting.TheVariants.{Trace, Objects, Line}
 use Rattle.room_run.specs.Accepted.{ScriptsBeginEarly, ScriptsEndEarly, TextsAreOfOneRun, TopologiesHaveDevices}
 use Rattle.room_run.specs.Run.{start, IsTrace, IsRunText}
-use Rattle.room_run.specs.Emulate.{IsAccepted, IsLineOf, TextsHaveOneTrace, TextsHaveOneLine}
+use Rattle.room_run.specs.Emulate.{AreObjectsOf, IsAccepted, IsLineOf, TextsHaveOneTrace, TextsHaveOneLine, TextsHaveOneTextOfObjects}
 use Rattle.room_run.proofs.Turns.{one_trace, one_run_text}
 
 -- a tree with a television has a device
@@ -99,6 +99,13 @@ one_trace_of topology script text totals plan course edid t s e w =
     subst (λ x. IsTrace x course.end (start (first_net plan.tree course.pulses) course.events) text totals) r
     (one_run_of topology script text totals plan course (Trace w.edid) t s w.plan w.course w.accepted w.trace)
 
+pub one_text_of_objects : (topology script text : List ℕ) (totals : Totals) (plan : Plan) (course : Course) (edid : Option Edid) → topology_of topology ≡ Ok plan → IsScriptRead plan.tree script (Ok course)
+    → IsRoot plan.edid edid → AreObjectsOf topology script text totals → IsRunText (Objects edid) course.end (start (first_net plan.tree course.pulses) course.events) text totals
+one_text_of_objects topology script text totals plan course edid t s e w =
+    let r : w.edid ≡ edid = one_root plan.edid w.edid edid (subst (λ q. IsRoot q.edid w.edid) (one_plan topology plan w.plan t w.accepted.plan_is) w.root) e in
+    subst (λ x. IsRunText (Objects x) course.end (start (first_net plan.tree course.pulses) course.events) text totals) r
+    (one_run_of topology script text totals plan course (Objects w.edid) t s w.plan w.course w.accepted w.objects)
+
 pub one_line_of : (format : CaptureForm) (topology script text : List ℕ) (totals : Totals) (plan : Plan) (course : Course) → topology_of topology ≡ Ok plan → IsScriptRead plan.tree script (Ok course)
     → IsLineOf format topology script text totals → IsRunText (Line format) course.end (start (first_net plan.tree course.pulses) course.events) text totals
 one_line_of format topology script text totals plan course t s w =
@@ -113,3 +120,8 @@ pub texts_have_one_line : TextsHaveOneLine
 texts_have_one_line format topology script x y s t p q =
     one_run_text (Line format) p.course.end (start (first_net p.plan.tree p.course.pulses) p.course.events) x y s t p.line
     (one_line_of format topology script y t p.plan p.course p.accepted.plan_is p.accepted.course_is q)
+
+pub texts_have_one_text_of_objects : TextsHaveOneTextOfObjects
+texts_have_one_text_of_objects topology script x y s t p q =
+    one_run_text (Objects p.edid) p.course.end (start (first_net p.plan.tree p.course.pulses) p.course.events) x y s t p.objects
+    (one_text_of_objects topology script y t p.plan p.course p.edid p.accepted.plan_is p.accepted.course_is p.root q)

@@ -16,12 +16,12 @@ use Rattle.room_net.proofs.Kept.{event_keeps}
 use Rattle.room_net.proofs.Progress.{going}
 use Rattle.message_text.specs.ReadingText.{is_complete}
 use Rattle.room_run.specs.declared.run.Reporting.{Reporting}
-use Rattle.room_run.specs.declared.run.Reporting.TheVariants.{Trace, Line}
+use Rattle.room_run.specs.declared.run.Reporting.TheVariants.{Trace, Objects, Line}
 use Rattle.room_run.specs.declared.run.Totals.{Totals}
 use Rattle.room_run.specs.declared.run.Turn.{Turn}
 use Rattle.room_run.specs.declared.run.Turn.TheVariants.{Stop, Apply, Round}
 use Rattle.room_run.specs.Run.{Config, start, turn_at, turn_of, first_time, round_turn, counted_event, counted_round, IsEventTurn, IsTurnBy, IsTurn, IsRunTextFrom, event_reported, round_reported, start_reported, end_reported}
-use Rattle.room_run.specs.HasRun.{RunsHaveTexts, TextsHaveTraces}
+use Rattle.room_run.specs.HasRun.{RunsHaveTexts, TextsHaveObjects, TextsHaveTraces}
 use Rattle.room_run.proofs.Advance.{left_in_order, round_begins}
 
 -- ---- one turn
@@ -122,3 +122,9 @@ texts_have_traces topology script plan course edid accepted root =
           let line = runs_have_texts (Line format) plan.tree course.pulses course.events course.end order in
           (line.0, line.1, record { plan = plan; course = course; edid = edid; accepted = accepted; root = root; line = line.2 }),
     )
+
+pub texts_have_objects : TextsHaveObjects
+texts_have_objects topology script plan course edid accepted root =
+    let order = (scripts_are_sound plan.tree script course accepted.course_is).timely.order in
+    let text = runs_have_texts (Objects edid) plan.tree course.pulses course.events course.end order in
+    (text.0, text.1, record { plan = plan; course = course; edid = edid; accepted = accepted; root = root; objects = text.2 })

@@ -4,6 +4,12 @@ use Rattle.std.specs.Fmt.{decimal}
 use Rattle.std.specs.List.{concat}
 use Rattle.line_rounds.specs.declared.Loser.{Loser}
 use Rattle.message_text.specs.ReadingText.{reported_text, verdict_text, reading_text_of}
+use Rattle.record_core.specs.Cells.{both}
+use Rattle.record_core.specs.Records.{object_of}
+use Rattle.record_core.specs.Values.{out, string, words}
+use Rattle.record_core.specs.declared.cell.Form.TheVariants.{Json}
+use Rattle.reading_record.specs.Reading.{reading_cells}
+use Rattle.room_trace.specs.Records.{round_text}
 use Rattle.room_trace.specs.TraceText.{comma_list, name_at, round_line}
 use Rattle.std.proofs.Common.{map, zero, suc, ap, sym, ◌≡◌, ℕ, ◌+◌, ◌==◌, ◌&&◌, ◌||◌, Bool, true, false, not, nat_lt, if◌then◌else◌, List, [], ◌∷◌, ◌++◌, length, Option, Some, None, refl, ap₂, ◌∙◌, ◌%◌}
 use Rattle.device_core.specs.State.{State, frame_of, addresses_held, holds, one_more, with_queued, speaks, source}
@@ -153,3 +159,18 @@ same_line xs ys o e =
 
 pub line_before : (s : NetState) (begin : ℕ) (o : Outcome) → round_line s.devices o ≡ round_line (after_round s begin o).devices o
 line_before s begin o = same_line s.devices (after_round s begin o).devices o (sym (names_round s begin o))
+
+-- the same of its object
+abbrev object_by : Outcome → (ℕ → List ℕ) → List ℕ
+object_by o name =
+    object_of (codes "round") (reading_cells o.reading
+    ++ both (codes " by ") (codes "by") (words (λ n. string (name n)) (codes ",") o.survivors.items)
+    ∷ both (codes " out ") (codes "out") (words (λ (l : Loser). out (name l.seat) l.slot) (codes ",") o.losers.items) ∷ [])
+
+same_object : (xs ys : List State) (o : Outcome) → names_of xs ≡ names_of ys → round_text Json xs o ≡ round_text Json ys o
+same_object xs ys o e =
+    let names : name_at xs ≡ name_at ys = λ i n. same_name xs ys e n i in
+    ap (object_by o) names
+
+pub object_before : (s : NetState) (begin : ℕ) (o : Outcome) → round_text Json s.devices o ≡ round_text Json (after_round s begin o).devices o
+object_before s begin o = same_object s.devices (after_round s begin o).devices o (sym (names_round s begin o))

@@ -12,20 +12,22 @@ use Rattle.edid_core.specs.declared.edid.Edid.{Edid}
 use Rattle.room_script.specs.declared.script.TimedEvent.{TimedEvent}
 use Rattle.room_event.specs.declared.event.EventError.{EventError}
 use Rattle.room_net.specs.State.{NetState}
-use Rattle.room_trace.specs.PortText.{port_lines}
+use Rattle.record_core.specs.declared.cell.Form.TheVariants.{Json}
+use Rattle.room_trace.specs.PortText.{port_lines, port_texts}
+use Rattle.room_trace.specs.Records.{event_text as event_record, round_text}
 use Rattle.room_trace.specs.TraceText.{event_line, round_line}
 use Rattle.capture_forms.specs.declared.form.CaptureForm.{CaptureForm}
 use Rattle.room_run.specs.declared.run.Totals.{Totals}
 use Rattle.room_run.specs.declared.run.Reporting.{Reporting}
-use Rattle.room_run.specs.declared.run.Reporting.TheVariants.{Line, Trace}
+use Rattle.room_run.specs.declared.run.Reporting.TheVariants.{Line, Objects, Trace}
 use Rattle.room_run.specs.declared.run.Turn.{Turn}
 use Rattle.room_run.specs.declared.run.Turn.TheVariants.{Stop, Apply, Round}
 use Rattle.room_run.specs.Turns.{IsTold, RunsAreTold, SaysOf, TracesSay}
-use Rattle.room_run.specs.Run.{Config, turn_at, start_reported, end_reported, event_text, IsEventTurn, Leads}
-use Rattle.room_run.specs.Happening.{Happening, Goes, IsApplied, line_of_turn, text_of}
+use Rattle.room_run.specs.Run.{Config, turn_at, start_reported, end_reported, event_objects, event_text, IsEventTurn, Leads}
+use Rattle.room_run.specs.Happening.{Happening, Goes, IsApplied, line_of_turn, objects_of, text_of}
 use Rattle.room_run.specs.Heard.{AddsEach, Hears, IsRunWritten}
-use Rattle.room_run.proofs.Names.{line_before}
-use Rattle.room_run.proofs.Ports.{event_ports}
+use Rattle.room_run.proofs.Names.{line_before, object_before}
+use Rattle.room_run.proofs.Ports.{event_port_texts, event_ports}
 use Rattle.room_run.proofs.Turns.{front_of_text, whole_text}
 
 -- ---- what a text has heard of, turn by turn, is one text
@@ -50,6 +52,21 @@ trace_by edid (Round begin) c x d h = (
     wave = h.wave;
     next = h.next;
     reported = ap (text_of edid) h.is ∙ line_before c.net begin h.outcome ∙ ap (λ (s : NetState). round_line s.devices h.outcome) (sym h.next.after_is);
+    totals = h.totals;
+  },
+  h.events,
+)
+
+pub objects_by : (edid : Option Edid) → SaysOf (Objects edid) (objects_of edid)
+objects_by edid Stop c x d h = absurd h
+objects_by edid (Apply at) c x d h =
+    subst (λ (es : List TimedEvent). IsEventTurn (Objects edid) at es c (objects_of edid x) d) (sym h.next) (ap (objects_of edid) h.is, h.after)
+objects_by edid (Round begin) c x d h = (
+  record {
+    outcome = h.outcome;
+    wave = h.wave;
+    next = h.next;
+    reported = ap (objects_of edid) h.is ∙ object_before c.net begin h.outcome ∙ ap (λ (s : NetState). round_text Json s.devices h.outcome) (sym h.next.after_is);
     totals = h.totals;
   },
   h.events,
@@ -159,3 +176,12 @@ event_added at edid e before after refused was tree a b c applied tree_is line p
     let lines = port_lines at edid (λ device. get_or was device false) tree in
     let same = event_ports at edid e before after before.tree tree was applied.after_is refl tree_is applied.was_is in
     subst (λ (t : List ℕ). Adds a c t) (ap₂ (λ (x y : List ℕ). x ++ y) (ap (event_line at e.line) applied.refused_is) same) (then a b c (event_line at e.line refused) lines line ports)
+
+-- the same as objects
+pub event_objects_added : (at : ℕ) (edid : Option Edid) (e : TimedEvent) (before after : NetState) (refused : Option EventError) (was : List Bool) (tree : List Node) (a b c : Tally)
+    → IsApplied at e before refused was after → tree ≡ after.tree → Adds a b (event_record Json at e.line refused) → Adds b c (port_texts Json at edid (λ device. get_or was device false) tree)
+    → Adds a c (event_objects edid at e before)
+event_objects_added at edid e before after refused was tree a b c applied tree_is object ports =
+    let objects = port_texts Json at edid (λ device. get_or was device false) tree in
+    let same = event_port_texts Json at edid e before after before.tree tree was applied.after_is refl tree_is applied.was_is in
+    subst (λ (t : List ℕ). Adds a c t) (ap₂ (λ (x y : List ℕ). x ++ y) (ap (event_record Json at e.line) applied.refused_is) same) (then a b c (event_record Json at e.line refused) objects object ports)

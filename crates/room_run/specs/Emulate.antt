@@ -18,7 +18,7 @@ use Rattle.edid_core.specs.declared.root.RootError.{RootError}
 use Rattle.edid_core.specs.declared.root.RootError.TheVariants as roots
 use Rattle.capture_forms.specs.declared.form.CaptureForm.{CaptureForm}
 use Rattle.capture_forms.specs.declared.form.CaptureForm.TheVariants.{Edges}
-use Rattle.room_run.specs.declared.run.Reporting.TheVariants.{Line}
+use Rattle.room_run.specs.declared.run.Reporting.TheVariants.{Line, Objects}
 use Rattle.room_run.specs.Run.{start, IsRunText, IsTrace}
 
 -- the texts spell this topology and this script
@@ -34,6 +34,15 @@ pub record IsTraceOf (topology script text : List ℕ) (totals : Totals) : Type 
   pub accepted : IsAccepted topology script plan course
   pub root : IsRoot plan.edid edid
   pub trace : IsTrace edid course.end (start (first_net plan.tree course.pulses) course.events) text totals
+
+-- the objects of that trace
+pub record AreObjectsOf (topology script text : List ℕ) (totals : Totals) : Type 0 where
+  pub plan : Plan
+  pub course : Course
+  pub edid : Option EdidValue
+  pub accepted : IsAccepted topology script plan course
+  pub root : IsRoot plan.edid edid
+  pub objects : IsRunText (Objects edid) course.end (start (first_net plan.tree course.pulses) course.events) text totals
 
 -- the line of the run that the texts spell, and its end, in a format
 pub record IsLineOf (format : CaptureForm) (topology script text : List ℕ) (totals : Totals) : Type 0 where
@@ -64,6 +73,10 @@ abbrev pub root_reported : RootError → EmulateError
 root_reported (roots.Cause cause) = Edid cause
 root_reported roots.Memory = Memory
 
+-- and one text of its objects
+abbrev pub TextsHaveOneTextOfObjects : Type 0
+TextsHaveOneTextOfObjects = (topology script x y : List ℕ) (s t : Totals) → AreObjectsOf topology script x s → AreObjectsOf topology script y t → (x ≡ y) × (s ≡ t)
+
 -- and one text of their line in each format
 abbrev pub TextsHaveOneLine : Type 0
 TextsHaveOneLine = (format : CaptureForm) (topology script x y : List ℕ) (s t : Totals) → IsLineOf format topology script x s → IsLineOf format topology script y t → (x ≡ y) × (s ≡ t)
@@ -92,6 +105,9 @@ IsCutText IsDue old new Memory = new ≡ old
 
 abbrev pub IsCut : List ℕ → List ℕ → Option (List ℕ) → Option (List ℕ) → EmulateError → Type 0
 IsCut topology script = IsCutText (IsTraceOf topology script)
+
+abbrev pub AreObjectsCut : List ℕ → List ℕ → Option (List ℕ) → Option (List ℕ) → EmulateError → Type 0
+AreObjectsCut topology script = IsCutText (AreObjectsOf topology script)
 
 abbrev pub IsLineCut : CaptureForm → List ℕ → List ℕ → Option (List ℕ) → Option (List ℕ) → EmulateError → Type 0
 IsLineCut format topology script = IsCutText (IsLineOf format topology script)

@@ -11,10 +11,12 @@ use Rattle.room_net.specs.Step.{IsNextRound}
 use Rattle.message_text.specs.ReadingText.{is_complete}
 use Rattle.capture_forms.specs.Format.{line_round}
 use Rattle.capture_forms.specs.declared.form.CaptureForm.{CaptureForm}
+use Rattle.record_core.specs.declared.cell.Form.TheVariants.{Json}
+use Rattle.room_trace.specs.Records.{round_text}
 use Rattle.room_trace.specs.TraceText.{round_line}
 use Rattle.room_run.specs.declared.run.Turn.{Turn}
 use Rattle.room_run.specs.declared.run.Turn.TheVariants.{Stop, Apply, Round}
-use Rattle.room_run.specs.Run.{Config, turn_at, counted_event, counted_round, event_text}
+use Rattle.room_run.specs.Run.{Config, turn_at, counted_event, counted_round, event_objects, event_text}
 use Rattle.edid_core.specs.declared.edid.Edid.{Edid}
 use Rattle.edid_tree.specs.Path.{is_on_wire}
 
@@ -70,6 +72,12 @@ pub record IsApplied (at : ℕ) (event : TimedEvent) (before : NetState) (refuse
 abbrev pub text_of : Option Edid → Happening → List ℕ
 text_of edid (OfEvent at e before) = event_text edid at e before
 text_of edid (OfRound begin before o) = round_line before.devices o
+
+-- ---- its objects
+
+abbrev pub objects_of : Option Edid → Happening → List ℕ
+objects_of edid (OfEvent at e before) = event_objects edid at e before
+objects_of edid (OfRound begin before o) = round_text Json before.devices o
 
 -- ---- the line in a format: of an event nothing, of a round its line
 

@@ -13,7 +13,7 @@ use Rattle.room_run.specs.declared.run.Reporting.{Reporting}
 use Rattle.room_run.specs.declared.run.Totals.{Totals}
 use Rattle.room_run.specs.Run.{start, IsRunText}
 use Rattle.capture_forms.specs.declared.form.CaptureForm.{CaptureForm}
-use Rattle.room_run.specs.Emulate.{IsAccepted, IsTraceOf, IsLineOf}
+use Rattle.room_run.specs.Emulate.{AreObjectsOf, IsAccepted, IsTraceOf, IsLineOf}
 
 -- whatever is told of it, and whatever pulls in order there are: it stops, and each of its rounds has an outcome
 abbrev pub RunsHaveTexts : Type 0
@@ -21,7 +21,12 @@ RunsHaveTexts = (reporting : Reporting) (tree : List Node) (pulses : List Stretc
     → (text : List ℕ) × (totals : Totals) × IsRunText reporting end (start (first_net tree pulses) events) text totals
 
 -- A topology and a script that are accepted, with an EDID that is none or is read, have a trace, and a text of
--- their line in each format.
+-- their line in each format,
 abbrev pub TextsHaveTraces : Type 0
 TextsHaveTraces = (topology script : List ℕ) (plan : Plan) (course : Course) (edid : Option Edid) → IsAccepted topology script plan course → IsRoot plan.edid edid
     → ((text : List ℕ) × (totals : Totals) × IsTraceOf topology script text totals) × ((format : CaptureForm) → (text : List ℕ) × (totals : Totals) × IsLineOf format topology script text totals)
+
+-- and the objects of the trace
+abbrev pub TextsHaveObjects : Type 0
+TextsHaveObjects = (topology script : List ℕ) (plan : Plan) (course : Course) (edid : Option Edid) → IsAccepted topology script plan course → IsRoot plan.edid edid
+    → (text : List ℕ) × (totals : Totals) × AreObjectsOf topology script text totals

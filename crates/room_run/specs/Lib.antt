@@ -11,3 +11,4 @@ pub mod Holdings
 pub mod HeldTrace
 pub mod Certain
 pub mod Causal
+pub mod Objects

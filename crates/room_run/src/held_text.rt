@@ -11,6 +11,7 @@ use crate::held_line::add_held_line;
 use crate::{AppliedEvent, Reporter, Totals, TraceText, run_turns, told};
 use edid_core::Edid;
 use line_rounds::{Outcome, Wire};
+use record_core::Form;
 use room_net::Net;
 use room_script::TimedEvent;
 use room_trace::{add_last_lines, add_new_ports};
@@ -84,11 +85,11 @@ pub fn write_held_trace<S: Sink, W: Wire>(
     ensures { IfOk result (λ totals. (text : List ℕ) × IsHeldRun edid.now end (start net.old events.now) text totals × Appends (S.contents out.old) (S.contents out.new) text) }
 {
     let mut text = Counted::new(out);
-    add_new_ports(&mut text, 0, edid, net.tree(), &[]);
+    add_new_ports(&mut text, Form::Text, 0, edid, net.tree(), &[]);
     let mut trace = HeldText::new(text, edid);
     let totals = run_turns(net, events, end, &mut trace);
     let mut text = trace.into_text();
-    add_last_lines(&mut text, net.devices(), end);
+    add_last_lines(&mut text, Form::Text, net.devices(), end);
     let written = text.written();
     // No effect at run time. The proof reads what `out` holds from the sink that comes back.
     let _below = text.into_sink();

@@ -2,9 +2,10 @@
 ghost use Rattle.room_run.specs.Run.{OneRunText, OneTrace};
 ghost use Rattle.room_run.specs.RunLine.{EdgesAreTheLine, LinesAreOfTheRounds, RunsAreRead, RunsAreShort};
 ghost use Rattle.room_run.specs.Accepted.{AddressedEach, AddressesAreThere, ScriptsBeginEarly, ScriptsEndEarly, TextsAreOfOneRun, TopologiesHaveDevices};
-ghost use Rattle.room_run.specs.Emulate.{TextsHaveOneLine, TextsHaveOneTrace};
+ghost use Rattle.room_run.specs.Emulate.{TextsHaveOneLine, TextsHaveOneTextOfObjects, TextsHaveOneTrace};
+ghost use Rattle.room_run.specs.Objects.{ObjectsAreOfTheTrace};
 ghost use Rattle.room_run.specs.Heard.{TurnsAreAdded};
-ghost use Rattle.room_run.specs.HasRun.{RunsHaveTexts, TextsHaveTraces};
+ghost use Rattle.room_run.specs.HasRun.{RunsHaveTexts, TextsHaveObjects, TextsHaveTraces};
 ghost use Rattle.room_run.specs.OneRun.{OneRun, RunsCloseSoon, TextsHaveOneRun, TracesHaveParts};
 ghost use Rattle.room_run.specs.Certain.{AllBeforeIsOne, LatePulsesDoNotPull, NoneAfterHeld, ReportedIsFront, RoundTurnsStay, RoundsStay, TurnsAreCertain, TurnsStayCertain};
 ghost use Rattle.room_run.specs.Causal.{RunsAreCausal, TracesAreCausal};
@@ -36,6 +37,21 @@ pub fn texts_have_one_line()
 /// The texts of a topology and a script have one trace, and one count of what it reports.
 pub fn texts_have_one_trace()
     ensures { TextsHaveOneTrace }
+{}
+
+/// The texts of a topology and a script have one text of the objects of their trace, and one count of what it reports.
+pub fn texts_have_one_text_of_objects()
+    ensures { TextsHaveOneTextOfObjects }
+{}
+
+/// A topology and a script that are accepted, with an EDID that is none or is read, have such a text.
+pub fn texts_have_objects()
+    ensures { TextsHaveObjects }
+{}
+
+/// The objects of a trace are those of its lines, one for one.
+pub fn objects_are_of_the_trace()
+    ensures { ObjectsAreOfTheTrace }
 {}
 
 /// The readings of a run's whole line, cut at the script's end or the last close, whichever is later, are those

@@ -10,6 +10,7 @@ ghost use Rattle.text_core.specs.Cut.{CutOff};
 ghost use Rattle.room_run.specs.Run.{HasAddressReported, IsRunText, event_turn, first_time, round_turn, start, turn_of};
 
 use crate::line_text::write_line;
+use crate::objects_text::write_objects;
 use crate::trace_text::write_trace;
 use capture_forms::CaptureForm;
 use edid_core::Edid;
@@ -37,6 +38,8 @@ pub struct Totals {
 pub enum Reporting {
     /// Its trace, with the EDID that ports pass on, where it is given.
     Trace(Option<Edid>),
+    /// The objects of its trace, with the same.
+    Objects(Option<Edid>),
     /// Its line, in a format.
     Line(CaptureForm),
 }
@@ -122,8 +125,8 @@ pub fn started_net(
     Net::on_heap(alloc, tree, &script.pulses)
 }
 
-/// Runs a network to `end`, at most 1,000,000,000,000 microseconds, and writes its trace, or its line in a
-/// format. The EDID that ports pass on, where it is given, has an HDMI block. The events stand in the order of their
+/// Runs a network to `end`, at most 1,000,000,000,000 microseconds, and writes its trace, the objects of its trace,
+/// or its line in a format. The EDID that ports pass on, where it is given, has an HDMI block. The events stand in the order of their
 /// times, all before `end`, and name devices of the tree.
 ///
 /// # Errors
@@ -149,6 +152,7 @@ pub fn run<S: Sink, W: Wire>(
 {
     match reporting {
         Reporting::Trace(edid) => write_trace(out, net, edid, events, end),
+        Reporting::Objects(edid) => write_objects(out, net, edid, events, end),
         Reporting::Line(format) => write_line(out, net, *format, events, end),
     }
 }

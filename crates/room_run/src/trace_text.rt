@@ -14,6 +14,7 @@ use crate::run::{Totals, told};
 use crate::turn_by_turn::run_turns;
 use edid_core::Edid;
 use line_rounds::{Outcome, Wire};
+use record_core::Form;
 use room_net::Net;
 use room_script::TimedEvent;
 use room_trace::{add_event, add_last_lines, add_new_ports, add_round};
@@ -73,12 +74,14 @@ impl<'a, 'e, S: Sink> Reporter for TraceText<'a, 'e, S> {
     fn event<W>(&mut self, applied: &AppliedEvent<'_>, net: &Net<W>) {
         add_event(
             &mut self.text,
+            Form::Text,
             applied.at,
             applied.event.line,
             applied.refused,
         );
         add_new_ports(
             &mut self.text,
+            Form::Text,
             applied.at,
             self.passed.edid,
             net.tree(),
@@ -87,7 +90,7 @@ impl<'a, 'e, S: Sink> Reporter for TraceText<'a, 'e, S> {
     }
 
     fn round<W>(&mut self, _begin: u64, outcome: &Outcome, net: &Net<W>) {
-        add_round(&mut self.text, net.devices(), outcome);
+        add_round(&mut self.text, Form::Text, net.devices(), outcome);
     }
 
     fn wants_more(&self) -> bool {
@@ -115,14 +118,14 @@ pub fn write_trace<S: Sink, W: Wire>(
     ensures { IsRunWritten (IsRunText (Trace edid.now) end (start net.old events.now)) (S.contents out.old) (S.contents out.new) (S.is_stuck out.old) (S.is_stuck out.new) result }
 {
     let mut text = Counted::new(out);
-    add_new_ports(&mut text, 0, edid, net.tree(), &[]);
+    add_new_ports(&mut text, Form::Text, 0, edid, net.tree(), &[]);
     let mut trace = TraceText {
         text,
         passed: Passed { edid },
     };
     let totals = run_turns(net, events, end, &mut trace);
     let mut text = trace.into_text();
-    add_last_lines(&mut text, net.devices(), end);
+    add_last_lines(&mut text, Form::Text, net.devices(), end);
     let written = text.written();
     // No effect at run time. The proof reads what `out` holds from the sink that comes back.
     let _below = text.into_sink();

@@ -1,10 +1,8 @@
--- Texts of topologies (own): lines `device NAME KIND PORTS`, `plug CHILD PARENT PORT` and at most one
--- `edid HEX`. Of the causes that apply to a line it has the first in the order of `TopologyCause`.
-use Rattle.std.specs.Prelude.{◌≡◌, ℕ, ◌+◌, ◌==◌, ◌||◌, not, codes, length, min, List, [], ◌∷◌, nat_lt, if◌then◌else◌, Option, Some, None, is_some, option_map, Result, Ok, Err}
-use Rattle.std.specs.Str.{bytes_eq}
+-- Texts of topologies (own): lines of the forms of room_lines, and what they mean in a plan. Of the causes that apply to a line
+-- it has the first in the order of `TopologyCause`.
+use Rattle.std.specs.Prelude.{◌≡◌, ℕ, ◌+◌, ◌==◌, ◌||◌, not, codes, length, List, [], ◌∷◌, if◌then◌else◌, Option, Some, None, is_some, option_map, Result, Ok, Err}
 use Rattle.std.specs.Result.{result_ok}
 use Rattle.hex.specs.Hex.{decode_of}
-use Rattle.text_core.specs.Kind.{kind_named}
 use Rattle.text_core.specs.declared.kind.Kind.{Kind}
 use Rattle.edid_tree.specs.Name.{is_name}
 use Rattle.edid_tree.specs.Node.{Node}
@@ -14,8 +12,13 @@ use Rattle.edid_tree.specs.declared.plug.AddError.TheVariants as adding
 use Rattle.edid_tree.specs.declared.plug.PlugError.{PlugError}
 use Rattle.edid_tree.specs.declared.plug.PlugError.TheVariants as plugging
 use Rattle.text_core.specs.Lines.{lines_of, is_skipped}
-use Rattle.text_core.specs.Words.{words_of, one_of, three_of}
-use Rattle.text_core.specs.Number.{number_of}
+use Rattle.text_core.specs.Words.{words_of}
+use Rattle.text_forms.specs.Forms.{Meaning, Said, kind_at, line_of, port_at, ports_at, text_at}
+use Rattle.text_forms.specs.declared.form.LineCause.{LineCause}
+use Rattle.text_forms.specs.declared.form.LineCause.TheVariants as causes
+use Rattle.room_lines.specs.Topology.{topology_rows}
+use Rattle.room_lines.specs.declared.topology.TopologyVerb.{TopologyVerb}
+use Rattle.room_lines.specs.declared.topology.TopologyVerb.TheVariants.{Device, Plug, Edid}
 use Rattle.room_script.specs.declared.topology.Topology.{Topology}
 use Rattle.room_script.specs.declared.topology.TopologyCause.{TopologyCause}
 use Rattle.room_script.specs.declared.topology.TopologyCause.TheVariants.{Word, Number, Name, Full, SecondRoot, NoRoot, PortRange, PortTaken, NotLoose, Loop, Hex}
@@ -49,10 +52,6 @@ topology_cause NotLoose = codes "not-loose"
 topology_cause Loop = codes "loop"
 topology_cause Hex = codes "hex"
 
--- after a line's first word stand so many, and others are wanted: the first that is missing or too many
-abbrev pub misfit : ℕ → ℕ → AtWord TopologyCause
-misfit count wanted = at_word (1 + min count wanted) Word
-
 -- the faults that a tree's refusals give
 abbrev pub add_fault_of : AddError → AtWord TopologyCause
 add_fault_of adding.Full = at_word 0 Full
@@ -73,30 +72,18 @@ abbrev pub unless_plug : Option PlugError → Plan → Result Plan (AtWord Topol
 unless_plug None plan = Ok plan
 unless_plug (Some error) plan = Err (plug_fault_of error)
 
--- `device NAME KIND PORTS`, with what its words say
-abbrev pub device_read : Plan → List ℕ → Option Kind → Option ℕ → Result Plan (AtWord TopologyCause)
-device_read plan name None ports = Err (at_word 2 Word)
-device_read plan name (Some kind) None = Err (at_word 3 Number)
-device_read plan name (Some kind) (Some ports) =
-    if nat_lt 15 ports then Err (at_word 3 Number)
-    else if not (is_name name) || is_some (device_named plan.tree name) then Err (at_word 1 Name)
+-- a device, of a name that is one and is not taken
+abbrev pub device_checked : Plan → List ℕ → Kind → ℕ → Result Plan (AtWord TopologyCause)
+device_checked plan name kind ports =
+    if not (is_name name) || is_some (device_named plan.tree name) then Err (at_word 1 Name)
     else unless_add (add_fault 15 plan.tree name kind) (record plan { tree = tree_with_device plan.tree name kind ports })
 
-abbrev pub device_line : Plan → ℕ → Option (List ℕ × List ℕ × List ℕ) → Result Plan (AtWord TopologyCause)
-device_line plan count None = Err (misfit count 3)
-device_line plan count (Some words) = device_read plan words.0 (kind_named words.1) (number_of words.2)
-
--- `plug CHILD PARENT PORT`, with what its words say; a port above 255 counts as 255
-abbrev pub plug_read : Plan → Option ℕ → Option ℕ → Option ℕ → Result Plan (AtWord TopologyCause)
-plug_read plan None child parent = Err (at_word 3 Number)
-plug_read plan (Some port) None parent = Err (at_word 1 Name)
-plug_read plan (Some port) (Some child) None = Err (at_word 2 Name)
-plug_read plan (Some port) (Some child) (Some parent) =
-    unless_plug (plug_fault plan.tree child parent (min port 255)) (record plan { tree = tree_with_plug plan.tree child parent (min port 255) })
-
-abbrev pub plug_line : Plan → ℕ → Option (List ℕ × List ℕ × List ℕ) → Result Plan (AtWord TopologyCause)
-plug_line plan count None = Err (misfit count 3)
-plug_line plan count (Some words) = plug_read plan (number_of words.2) (device_named plan.tree words.0) (device_named plan.tree words.1)
+-- a plug, of a child and a parent that are declared
+abbrev pub plug_checked : Plan → Option ℕ → Option ℕ → ℕ → Result Plan (AtWord TopologyCause)
+plug_checked plan None parent port = Err (at_word 1 Name)
+plug_checked plan (Some child) None port = Err (at_word 2 Name)
+plug_checked plan (Some child) (Some parent) port =
+    unless_plug (plug_fault plan.tree child parent port) (record plan { tree = tree_with_plug plan.tree child parent port })
 
 -- the bytes that pairs of hex digits of either case spell, at least one
 abbrev pub bytes_of : List ℕ → Option (List ℕ)
@@ -106,22 +93,30 @@ abbrev pub edid_read : Plan → Option (List ℕ) → Result Plan (AtWord Topolo
 edid_read plan None = Err (at_word 1 Hex)
 edid_read plan (Some bytes) = Ok (record plan { edid = Some bytes })
 
--- `edid HEX`, at most once
-abbrev pub edid_line : Plan → ℕ → Option (List ℕ) → Result Plan (AtWord TopologyCause)
-edid_line plan count None = Err (misfit count 1)
-edid_line plan count (Some word) = if is_some plan.edid then Err (at_word 0 Word) else edid_read plan (bytes_of word)
+-- an EDID, at most once
+abbrev pub edid_checked : Plan → List ℕ → Result Plan (AtWord TopologyCause)
+edid_checked plan hex = if is_some plan.edid then Err (at_word 0 Word) else edid_read plan (bytes_of hex)
 
--- a line by its words
-abbrev pub plan_with_words : Plan → List (List ℕ) → Result Plan (AtWord TopologyCause)
-plan_with_words plan [] = Err (at_word 0 Word)
-plan_with_words plan (verb ∷ words) =
-    if bytes_eq verb (codes "device") then device_line plan (length words) (three_of words)
-    else if bytes_eq verb (codes "plug") then plug_line plan (length words) (three_of words)
-    else if bytes_eq verb (codes "edid") then edid_line plan (length words) (one_of words)
-    else Err (at_word 0 Word)
+-- what the values of a form mean in a plan: a cause that needs what stands above comes after those of the words themselves
+abbrev pub checked : Plan → TopologyVerb → List Meaning → Result Plan (AtWord TopologyCause)
+checked plan Device values = device_checked plan (text_at values 1) (kind_at values 2) (ports_at values 3)
+checked plan Plug values = plug_checked plan (device_named plan.tree (text_at values 1)) (device_named plan.tree (text_at values 2)) (port_at values 3)
+checked plan Edid values = edid_checked plan (text_at values 1)
 
+abbrev pub cause_as : LineCause → TopologyCause
+cause_as causes.Word = Word
+cause_as causes.Number = Number
+
+abbrev pub fault_as : AtWord LineCause → AtWord TopologyCause
+fault_as fault = at_word fault.word (cause_as fault.cause)
+
+abbrev pub checked_in : Plan → Said TopologyVerb → Result Plan (AtWord TopologyCause)
+checked_in plan (Err fault) = Err (fault_as fault)
+checked_in plan (Ok read) = checked plan read.0 read.1
+
+-- a line, by the table of forms
 abbrev pub line_read : Plan → List ℕ → Result Plan (AtWord TopologyCause)
-line_read plan line = if is_skipped line then Ok plan else plan_with_words plan (words_of line)
+line_read plan line = if is_skipped line then Ok plan else checked_in plan (line_of topology_rows (words_of line))
 
 abbrev pub after_line : ℕ → Result Plan (AtWord TopologyCause) → (Plan → Result Plan (At TopologyCause)) → Result Plan (At TopologyCause)
 after_line line (Ok plan) onward = onward plan

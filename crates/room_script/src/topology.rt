@@ -1,19 +1,19 @@
 //! Topologies and their texts.
-ghost use Rattle.std.specs.Prelude.{◌≡◌, ◌+◌, ◌<◌, ◌≤◌, length, Result, Ok, Err, Some};
-ghost use Rattle.std.specs.Option.{option_copied};
-ghost use Rattle.text_core.specs.Words.{words_after, one_of, three_of};
+ghost use Rattle.std.specs.Prelude.{◌≡◌, ◌+◌, ◌≤◌, Result, Ok, Err, Some};
+ghost use Rattle.text_forms.specs.Forms.{values_of};
+ghost use Rattle.text_forms.specs.Limits.{most_ports};
+ghost use Rattle.edid_tree.specs.Tree.{device_named};
 ghost use Rattle.room_script.specs.declared.topology.TopologyLineError.TheVariants.{Fault};
-ghost use Rattle.room_script.specs.Topology.{plan_of, misfit, device_line, plug_line, edid_line, line_read, topology_of, error_at, GivesLine, GivesTopology};
+ghost use Rattle.room_script.specs.Topology.{plan_of, checked, device_checked, edid_checked, plug_checked, line_read, topology_of, error_at, GivesLine, GivesTopology};
 ghost use Rattle.text_core.specs.At.{at_word};
 
-use crate::counting::word_count;
 use edid_tree::{AddError, PlugError, Tree, is_name};
 use hex::FromHexError;
+use room_lines::{TOPOLOGY, TopologyVerb};
 use std::alloc::Global;
 use std::fmt::{self, Write};
-use text_core::{
-    At, AtWord, Kind, at_word, first_line, first_word, is_skipped, number_in, one_word, three_words,
-};
+use text_core::{At, AtWord, Kind, at_word, first_line, is_skipped};
+use text_forms::{FormLine, LineCause, read_line};
 use thiserror::Error;
 
 /// Why a line of a topology is refused: the first of these that applies.
@@ -89,12 +89,19 @@ fn fault(word: usize, cause: TopologyCause) -> TopologyLineError
     TopologyLineError::Fault(at_word(word, cause))
 }
 
-// Of words after the first one, of which others than so many are left.
-fn misfit(rest: Option<&[u8]>, wanted: usize) -> TopologyLineError
-    requires few { wanted ≤ 3 }
-    ensures { result ≡ Fault (misfit (length (words_after (option_copied rest.entry))) wanted) }
-{
-    fault(1 + word_count(rest, wanted), TopologyCause::Word)
+impl From<AtWord<LineCause>> for TopologyLineError {
+    ghost use Rattle.std.specs.Prelude.{◌≡◌};
+    ghost use Rattle.room_script.specs.Topology.{fault_as};
+    ghost use Rattle.room_script.specs.declared.topology.TopologyLineError.TheVariants.{Fault};
+
+    ghost from_gives = { λ error given. given ≡ Fault (fault_as error) };
+
+    fn from(error: AtWord<LineCause>) -> TopologyLineError {
+        match error.cause {
+            LineCause::Word => fault(error.word, TopologyCause::Word),
+            LineCause::Number => fault(error.word, TopologyCause::Number),
+        }
+    }
 }
 
 impl From<AddError> for TopologyLineError {
@@ -137,60 +144,47 @@ pub struct Topology {
     pub edid: Option<Vec<u8>>,
 }
 
-/// Takes the words after `device`.
-fn add_device(topology: &mut Topology, rest: Option<&[u8]>) -> Result<(), TopologyLineError>
-    ensures { GivesLine (plan_of topology.new) result (device_line (plan_of topology.old) (length (words_after (option_copied rest.entry))) (three_of (words_after (option_copied rest.entry)))) }
+// Adds a device.
+fn add_device(
+    topology: &mut Topology,
+    name: &[u8],
+    kind: Kind,
+    ports: u8,
+) -> Result<(), TopologyLineError>
+    requires { ports ≤ most_ports }
+    ensures { GivesLine (plan_of topology.new) result (device_checked (plan_of topology.old) name.now kind ports) }
 {
-    let Some((name, kind, ports)) = three_words(rest) else {
-        return Err(misfit(rest, 3));
-    };
-    let Some(kind) = Kind::named(kind) else {
-        return Err(fault(2, TopologyCause::Word));
-    };
-    let Some(ports) = number_in(ports) else {
-        return Err(fault(3, TopologyCause::Number));
-    };
-    if ports > 15 {
-        return Err(fault(3, TopologyCause::Number));
-    }
     if !is_name(name) || topology.tree.device_named(name).is_some() {
         return Err(fault(1, TopologyCause::Name));
     }
-    topology.tree.add(name, kind, ports as u8)?;
+    topology.tree.add(name, kind, ports)?;
     Ok(())
 }
 
-/// Takes the words after `plug`.
-fn add_plug(topology: &mut Topology, rest: Option<&[u8]>) -> Result<(), TopologyLineError>
-    ensures { GivesLine (plan_of topology.new) result (plug_line (plan_of topology.old) (length (words_after (option_copied rest.entry))) (three_of (words_after (option_copied rest.entry)))) }
+// Plugs one device into a port of another.
+fn add_plug(
+    topology: &mut Topology,
+    child: &[u8],
+    parent: &[u8],
+    port: u8,
+) -> Result<(), TopologyLineError>
+    ensures { GivesLine (plan_of topology.new) result (plug_checked (plan_of topology.old) (device_named (plan_of topology.old).tree child.now)
+        (device_named (plan_of topology.old).tree parent.now) port) }
 {
-    let Some((child, parent, port)) = three_words(rest) else {
-        return Err(misfit(rest, 3));
-    };
-    let Some(port) = number_in(port) else {
-        return Err(fault(3, TopologyCause::Number));
-    };
     let Some(child) = topology.tree.device_named(child) else {
         return Err(fault(1, TopologyCause::Name));
     };
     let Some(parent) = topology.tree.device_named(parent) else {
         return Err(fault(2, TopologyCause::Name));
     };
-    topology.tree.plug(child, parent, port.min(255) as u8)?;
+    topology.tree.plug(child, parent, port)?;
     Ok(())
 }
 
-/// Takes the word after `edid`.
-fn add_edid(
-    alloc: Global,
-    topology: &mut Topology,
-    rest: Option<&[u8]>,
-) -> Result<(), TopologyLineError>
-    ensures { GivesLine (plan_of topology.new) result (edid_line (plan_of topology.old) (length (words_after (option_copied rest.entry))) (one_of (words_after (option_copied rest.entry)))) }
+// Takes the television's EDID in hex.
+fn add_edid(alloc: Global, topology: &mut Topology, word: &[u8]) -> Result<(), TopologyLineError>
+    ensures { GivesLine (plan_of topology.new) result (edid_checked (plan_of topology.old) word.now) }
 {
-    let Some(word) = one_word(rest) else {
-        return Err(misfit(rest, 1));
-    };
     if topology.edid.is_some() {
         return Err(fault(0, TopologyCause::Word));
     }
@@ -207,23 +201,30 @@ fn add_edid(
     }
 }
 
-/// Takes a line.
+// Takes what a line of a form says.
+fn take_form(
+    alloc: Global,
+    topology: &mut Topology,
+    line: &FormLine<'_, TopologyVerb>,
+) -> Result<(), TopologyLineError>
+    ensures { GivesLine (plan_of topology.new) result (checked (plan_of topology.old) line.now.verb (values_of line.now)) }
+{
+    match line.verb {
+        TopologyVerb::Device => add_device(topology, line.text(1), line.kind(2), line.ports(3)),
+        TopologyVerb::Plug => add_plug(topology, line.text(1), line.text(2), line.port(3)),
+        TopologyVerb::Edid => add_edid(alloc, topology, line.text(1)),
+    }
+}
+
+// Takes a line.
 fn take_line(alloc: Global, topology: &mut Topology, line: &[u8]) -> Result<(), TopologyLineError>
     ensures { GivesLine (plan_of topology.new) result (line_read (plan_of topology.old) line.now) }
 {
     if is_skipped(line) {
         return Ok(());
     }
-    let (verb, rest) = first_word(line);
-    if verb == b"device".as_slice() {
-        add_device(topology, rest)
-    } else if verb == b"plug".as_slice() {
-        add_plug(topology, rest)
-    } else if verb == b"edid".as_slice() {
-        add_edid(alloc, topology, rest)
-    } else {
-        Err(fault(0, TopologyCause::Word))
-    }
+    let line = read_line(TOPOLOGY, line)?;
+    take_form(alloc, topology, &line)
 }
 
 fn error_at(line: u64, error: TopologyLineError) -> TopologyError
@@ -235,8 +236,8 @@ fn error_at(line: u64, error: TopologyLineError) -> TopologyError
     }
 }
 
-/// Reads a topology: lines `device NAME KIND PORTS`, `plug CHILD PARENT PORT` and at most one `edid HEX`;
-/// empty lines and lines that begin with `#` are skipped.
+/// Reads a topology: lines of the forms of [`TOPOLOGY`], of which `edid HEX` stands once at most; empty lines and lines that
+/// begin with `#` are skipped.
 ///
 /// # Errors
 ///

@@ -20,6 +20,7 @@ use edid_tree::Tree;
 use line_rounds::Outcome;
 use line_wave::{Edge, Stretch};
 use line_wire::EdgeWire;
+use record_core::Form;
 use room_net::{Net, RoundReport};
 use room_run::{AppliedEvent, Reporter, Totals, Turn, first_time, next_turn, take_event};
 use room_script::TimedEvent;
@@ -227,7 +228,7 @@ impl Position {
         ensures { Adds out.old out.new (start_text input.now.edid.value (point_of input.now.events.items self.now)) }
     {
         if self.is_first {
-            add_new_ports(out, 0, &input.edid, self.net.tree(), &[]);
+            add_new_ports(out, Form::Text, 0, &input.edid, self.net.tree(), &[]);
         }
     }
 

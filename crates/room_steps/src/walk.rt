@@ -11,6 +11,7 @@ use crate::stepper::StepError;
 use edid_core::root_on_heap;
 use line_rounds::Outcome;
 use line_wire::EdgeWire;
+use record_core::Form;
 use room_net::Net;
 use room_run::{TraceText, edid_on_heap};
 use room_script::{Script, Topology};
@@ -80,7 +81,7 @@ fn write_step<S: Sink>(
         mut text,
         passed: _passed,
     } = trace;
-    add_round(&mut text, after.net.devices(), outcome);
+    add_round(&mut text, Form::Text, after.net.devices(), outcome);
     let written = text.written();
     // No effect at run time. The proof reads what `out` holds from the sink that comes back.
     let _below = text.into_sink();

@@ -1,3 +1,4 @@
 pub mod StateText
 pub mod TraceText
 pub mod PortText
+pub mod Records

@@ -7,10 +7,11 @@ ghost use Rattle.edid_tree.specs.Path.{is_on_wire};
 ghost use Rattle.edid_tree.specs.Tree.{ports_of};
 ghost use Rattle.text_core.specs.Adds.{Adds};
 ghost use Rattle.text_core.specs.Cut.{WrittenText};
-ghost use Rattle.room_trace.specs.PortText.{lines_of_new, lines_of_ports, name_in, port_line, port_line_of, port_lines};
+ghost use Rattle.room_trace.specs.PortText.{name_in, port_lines, port_text, port_text_of, port_texts, texts_of_new, texts_of_ports};
 
 use edid_core::Edid;
 use edid_tree::Tree;
+use record_core::{Form, Value, add_record, cells};
 use text_core::{Counted, Piece, Sink, WriteFault};
 
 /// Which devices of a tree are on the wire, by number.
@@ -36,28 +37,27 @@ fn name_in(tree: &Tree<15>, device: usize) -> &[u8]
 // Adds the line of a port, from the name of its device and the bytes of its EDID.
 fn add_port_of<'a, S: Sink>(
     out: &mut Counted<'_, S>,
+    form: Form,
     at: u64,
     name: &'a [u8],
     port: u8,
     bytes: &'a [u8],
 )
-    ensures { Adds out.old out.new (port_line_of at name.now port bytes.now) }
+    ensures { Adds out.old out.new (port_text_of form at name.now port bytes.now) }
 {
-    out.add_line(&[
-        Piece::Decimal(at),
-        Piece::Text(" port "),
-        Piece::Bytes(name),
-        Piece::Text(" "),
-        Piece::Decimal(port as u64),
-        Piece::Text(" "),
-        Piece::Hex(bytes),
-        Piece::Text("\n"),
-    ]);
+    let cells = cells![
+        both("", "at", Value::One(Piece::Decimal(at))),
+        both(" port ", "device", Value::One(Piece::Bytes(name))),
+        both(" ", "port", Value::One(Piece::Decimal(port as u64))),
+        both(" ", "edid", Value::One(Piece::Hex(bytes))),
+    ];
+    add_record(out, form, "port", &cells);
 }
 
 // Adds the line of a port, which the device has.
 fn add_port<S: Sink>(
     out: &mut Counted<'_, S>,
+    form: Form,
     at: u64,
     root: &Edid,
     tree: &Tree<15>,
@@ -68,17 +68,18 @@ fn add_port<S: Sink>(
     requires first { 0 < port }
     requires last { port ≤ ports_of tree.now device }
     requires addressed { IsSome (edid_address root.now) }
-    ensures { Adds out.old out.new (port_line at root.now tree.now device port) }
+    ensures { Adds out.old out.new (port_text form at root.now tree.now device port) }
 {
     let Ok(bytes) = tree.write_port_edid(root, device, port) else {
         unreachable!();
     };
-    add_port_of(out, at, name_in(tree, device), port, &bytes);
+    add_port_of(out, form, at, name_in(tree, device), port, &bytes);
 }
 
 // Adds the lines of a device's ports.
 fn add_ports_of<S: Sink>(
     out: &mut Counted<'_, S>,
+    form: Form,
     at: u64,
     root: &Edid,
     tree: &Tree<15>,
@@ -86,10 +87,10 @@ fn add_ports_of<S: Sink>(
 )
     requires known { device < length tree.now }
     requires addressed { IsSome (edid_address root.now) }
-    ensures { Adds out.old out.new (lines_of_ports at root.now tree.now device) }
+    ensures { Adds out.old out.new (texts_of_ports form at root.now tree.now device) }
 {
     for port in 0..tree.ports(device) {
-        add_port(out, at, root, tree, device, port + 1);
+        add_port(out, form, at, root, tree, device, port + 1);
     }
 }
 
@@ -97,6 +98,7 @@ fn add_ports_of<S: Sink>(
 #[tactic(auto, using(text_core::proofs::Adding::nothing))]
 fn add_new<S: Sink>(
     out: &mut Counted<'_, S>,
+    form: Form,
     at: u64,
     root: &Edid,
     tree: &Tree<15>,
@@ -105,10 +107,10 @@ fn add_new<S: Sink>(
 )
     requires known { device < length tree.now }
     requires addressed { IsSome (edid_address root.now) }
-    ensures { Adds out.old out.new (lines_of_new at root.now tree.now was device) }
+    ensures { Adds out.old out.new (texts_of_new form at root.now tree.now was device) }
 {
     if tree.on_wire(device) && !was {
-        add_ports_of(out, at, root, tree, device);
+        add_ports_of(out, form, at, root, tree, device);
     }
 }
 
@@ -123,6 +125,7 @@ fn was_on(was: &[bool], device: usize) -> bool
 
 fn add_all_new<S: Sink>(
     out: &mut Counted<'_, S>,
+    form: Form,
     at: u64,
     root: &Edid,
     tree: &Tree<15>,
@@ -130,28 +133,29 @@ fn add_all_new<S: Sink>(
 )
     requires { IsSome (edid_address root.now) }
     ensures { Adds out.old out.new
-        (flat_map (λ device. lines_of_new at root.now tree.now (slice_index_or was.now device false) device) (range_with_len 0 (length tree.now))) }
+        (flat_map (λ device. texts_of_new form at root.now tree.now (slice_index_or was.now device false) device) (range_with_len 0 (length tree.now))) }
 {
     for device in 0..tree.count() {
-        add_new(out, at, root, tree, was_on(was, device), device);
+        add_new(out, form, at, root, tree, was_on(was, device), device);
     }
 }
 
-/// Adds the port lines of the devices that are on the wire and were not before, where there is an EDID.
+/// Adds the lines, or the objects, of the ports of the devices that are on the wire and were not before, where there is an EDID.
 #[tactic(auto, using(text_core::proofs::Adding::nothing))]
 pub fn add_new_ports<S: Sink>(
     out: &mut Counted<'_, S>,
+    form: Form,
     at: u64,
     edid: &Option<Edid>,
     tree: &Tree<15>,
     was: &[bool],
 )
     requires { HasAddress edid.now }
-    ensures { Adds out.old out.new (port_lines at edid.now (λ device. slice_index_or was.now device false) tree.now) }
+    ensures { Adds out.old out.new (port_texts form at edid.now (λ device. slice_index_or was.now device false) tree.now) }
 {
     match edid {
         None => {}
-        Some(root) => add_all_new(out, at, root, tree, was),
+        Some(root) => add_all_new(out, form, at, root, tree, was),
     }
 }
 
@@ -173,7 +177,7 @@ pub fn write_ports<S: Sink>(
         (port_lines at edid.now (λ device. slice_index_or was.now device false) tree.now) result }
 {
     let mut text = Counted::new(out);
-    add_new_ports(&mut text, at, edid, tree, was);
+    add_new_ports(&mut text, Form::Text, at, edid, tree, was);
     let written = text.written();
     // No effect at run time. The proof reads what `out` holds from the sink that comes back.
     let _below = text.into_sink();

@@ -1,125 +1,94 @@
-//! The line of a round.
-ghost use Rattle.std.specs.Prelude.{◌≡◌, ◌+◌, ◌*◌, ◌-◌, ◌<◌, ◌≤◌, ◌++◌, length, map};
-ghost use Rattle.std.specs.List.{flat_map};
-ghost use Rattle.arrayvec.specs.ArrayVec.{array_vec_len};
-ghost use Rattle.text_core.specs.Piece.{piece_text};
+//! The line of a round, or its object.
+ghost use Rattle.std.specs.Prelude.{◌≡◌, ◌≤◌, ◌++◌, ◌∷◌, [], codes, length, map};
 ghost use Rattle.text_core.specs.Adds.{Adds};
-ghost use Rattle.room_trace.specs.TraceText.{comma_list, loser_text, name_at, round_line, round_line_of};
+ghost use Rattle.reading_record.specs.Reading.{reading_cells};
+ghost use Rattle.record_core.specs.Cells.{both, value_of};
+ghost use Rattle.record_core.specs.Records.{record_text};
+ghost use Rattle.record_core.specs.Values.{out, pieces, string};
+ghost use Rattle.room_trace.specs.Records.{item_value, out_value, outs_value, round_text};
+ghost use Rattle.room_trace.specs.TraceText.{name_at};
 
-use crate::line::{PARTS, add};
 use arrayvec::ArrayVec;
 use device_core::Device;
+use line_frames::Reading;
 use line_rounds::{Loser, Outcome};
-use message_text::{ending_word, reading_reported, reading_verdict};
+use reading_record::add_reading_with;
+use record_core::{Form, Out, Value, cells};
 use text_core::{Counted, Piece, Sink};
 
-// Adds the name of a device.
-fn add_name<'a>(line: &mut ArrayVec<Piece<'a>, PARTS>, devices: &'a [Device<16>], number: usize)
-    requires room { array_vec_len line.old < 128 }
-    ensures text { flat_map piece_text line.new.items ≡ flat_map piece_text line.old.items ++ name_at devices.now number }
-    ensures len { array_vec_len line.new ≡ array_vec_len line.old + 1 }
+/// The most devices that send in a round.
+const MOST: usize = 16;
+
+fn name_of(devices: &[Device<16>], number: usize) -> &[u8]
+    ensures { result.now ≡ name_at devices.now number }
 {
     match devices.get(number) {
-        Some(device) => add(line, Piece::Bytes(device.name())),
-        None => add(line, Piece::Text("")),
+        Some(device) => device.name(),
+        None => b"",
     }
 }
 
-// Adds the names of devices.
-fn add_names<'a>(
-    line: &mut ArrayVec<Piece<'a>, PARTS>,
-    devices: &'a [Device<16>],
-    numbers: &[usize],
-)
-    requires room { array_vec_len line.old + 2 * length numbers.now + 1 ≤ 128 }
-    ensures text { flat_map piece_text line.new.items ≡ flat_map piece_text line.old.items ++ comma_list (map (name_at devices.now) numbers.now) }
-    ensures len { array_vec_len line.new ≤ array_vec_len line.old + 2 * length numbers.now + 1 }
+fn name_piece<'a>(devices: &'a [Device<16>], number: usize) -> Piece<'a>
+    ensures { item_value result ≡ string (name_at devices.now number) }
 {
-    let Some((first, others)) = numbers.split_first() else {
-        add(line, Piece::Text("-"));
-        return;
-    };
-    add_name(line, devices, *first);
-    for number in others {
-        add(line, Piece::Text(","));
-        add_name(line, devices, *number);
+    Piece::Bytes(name_of(devices, number))
+}
+
+// The names of devices.
+fn names_of<'a>(devices: &'a [Device<16>], numbers: &[usize]) -> ArrayVec<Piece<'a>, MOST>
+    requires { length numbers.now ≤ 16 }
+    ensures { map item_value result.items ≡ map (λ number. string (name_at devices.now number)) numbers.now }
+{
+    let mut names = ArrayVec::new();
+    for number in numbers {
+        names.push(name_piece(devices, *number));
     }
+    names
 }
 
-// Adds the name of a device, and the slot at which it was out.
-fn add_loser<'a>(line: &mut ArrayVec<Piece<'a>, PARTS>, devices: &'a [Device<16>], loser: Loser)
-    requires room { array_vec_len line.old + 3 ≤ 128 }
-    ensures text { flat_map piece_text line.new.items ≡ flat_map piece_text line.old.items ++ loser_text devices.now loser }
-    ensures len { array_vec_len line.new ≡ array_vec_len line.old + 3 }
+// Devices that were out, each with its slot.
+fn outs_of<'a>(devices: &'a [Device<16>], losers: &[Loser]) -> ArrayVec<Out<'a>, MOST>
+    requires { length losers.now ≤ 16 }
+    ensures { map out_value result.items ≡ map (λ loser. out (name_at devices.now loser.seat) loser.slot) losers.now }
 {
-    add_name(line, devices, loser.seat);
-    add(line, Piece::Text("@"));
-    add(line, Piece::Decimal(loser.slot as u64));
-}
-
-// Adds the devices that were out, each with its slot.
-fn add_losers<'a>(
-    line: &mut ArrayVec<Piece<'a>, PARTS>,
-    devices: &'a [Device<16>],
-    losers: &[Loser],
-)
-    requires room { array_vec_len line.old + 4 * length losers.now + 1 ≤ 128 }
-    ensures text { flat_map piece_text line.new.items ≡ flat_map piece_text line.old.items ++ comma_list (map (loser_text devices.now) losers.now) }
-    ensures len { array_vec_len line.new ≤ array_vec_len line.old + 4 * length losers.now + 1 }
-{
-    let Some((first, others)) = losers.split_first() else {
-        add(line, Piece::Text("-"));
-        return;
-    };
-    add_loser(line, devices, *first);
-    for loser in others {
-        add(line, Piece::Text(","));
-        add_loser(line, devices, *loser);
+    let mut outs = ArrayVec::new();
+    for loser in losers {
+        outs.push(Out {
+            name: name_of(devices, loser.seat),
+            slot: loser.slot as u64,
+        });
     }
+    outs
 }
 
-// The parts of a round's line, from what its reading reports and the verdict.
-fn round_pieces<'a>(
-    devices: &'a [Device<16>],
-    outcome: &'a Outcome,
-    reported: &'a [u8],
-    verdict: &'a str,
-) -> ArrayVec<Piece<'a>, PARTS>
-    ensures { flat_map piece_text result.items ≡ round_line_of devices.now outcome.now reported.now verdict.now }
-{
-    let mut line = ArrayVec::new();
-    add(&mut line, Piece::Decimal(outcome.reading.begin));
-    add(&mut line, Piece::Text(" "));
-    add(&mut line, Piece::Decimal(outcome.reading.at));
-    add(&mut line, Piece::Text(ending_word(outcome.reading.ending)));
-    add(&mut line, Piece::Bytes(reported));
-    add(&mut line, Piece::Text(verdict));
-    add(&mut line, Piece::Text(" by "));
-    add_names(&mut line, devices, &outcome.survivors);
-    add(&mut line, Piece::Text(" out "));
-    add_losers(&mut line, devices, &outcome.losers);
-    add(&mut line, Piece::Text("\n"));
-    line
-}
-
-// Adds a round's line, from what its reading reports and the verdict.
-fn add_round_of<'a, S: Sink>(
+// Adds a round, from the names of those who sent to the end, and those who stopped.
+fn add_seated<'a, S: Sink>(
     out: &mut Counted<'_, S>,
-    devices: &'a [Device<16>],
-    outcome: &'a Outcome,
-    reported: &'a [u8],
-    verdict: &'a str,
+    form: Form,
+    reading: &Reading,
+    by: &'a [Piece<'a>],
+    outs: &'a [Out<'a>],
 )
-    ensures { Adds out.old out.new (round_line_of devices.now outcome.now reported.now verdict.now) }
+    ensures { Adds out.old out.new (record_text form (codes "round") (reading_cells reading.now
+        ++ (both (codes " by ") (codes "by") (pieces (codes ",") by.now) ∷ both (codes " out ") (codes "out") (outs_value outs.now) ∷ []))) }
 {
-    out.add_line(&round_pieces(devices, outcome, reported, verdict));
+    let seats = cells![
+        both(" by ", "by", Value::List(",", by)),
+        both(" out ", "out", Value::Outs(outs)),
+    ];
+    add_reading_with(out, form, "round", reading, &seats);
 }
 
-/// Adds the line of a round.
-pub fn add_round<S: Sink>(out: &mut Counted<'_, S>, devices: &[Device<16>], outcome: &Outcome)
-    ensures { Adds out.old out.new (round_line devices.now outcome.now) }
+/// Adds the line of a round, or its object.
+pub fn add_round<S: Sink>(
+    out: &mut Counted<'_, S>,
+    form: Form,
+    devices: &[Device<16>],
+    outcome: &Outcome,
+)
+    ensures { Adds out.old out.new (round_text form devices.now outcome.now) }
 {
-    let reported = reading_reported(&outcome.reading);
-    let verdict = reading_verdict(&outcome.reading);
-    add_round_of(out, devices, outcome, &reported, verdict);
+    let by = names_of(devices, &outcome.survivors);
+    let outs = outs_of(devices, &outcome.losers);
+    add_seated(out, form, &outcome.reading, &by, &outs);
 }

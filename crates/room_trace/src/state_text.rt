@@ -1,19 +1,22 @@
-//! The line that reports the state of a device.
-ghost use Rattle.std.specs.Prelude.{◌≡◌, ◌<◌, ◌∷◌, [], Some, None};
-ghost use Rattle.std.specs.List.{flat_map};
+//! The line that reports the state of a device, or its object.
+ghost use Rattle.std.specs.Prelude.{◌≡◌, ◌∷◌, [], Some, None, codes, map};
 ghost use Rattle.text_core.specs.Adds.{Adds};
 ghost use Rattle.text_core.specs.Cut.{WrittenText};
-ghost use Rattle.text_core.specs.Piece.{dash_or, piece_text};
-ghost use Rattle.room_trace.specs.StateText.{address_text, held_text, note_text, outside_line_of, phys_on, power_text, state_line, state_line_of, unit_text};
+ghost use Rattle.device_core.specs.State.{addresses_held};
+ghost use Rattle.record_core.specs.Cells.{plain_of};
+ghost use Rattle.record_core.specs.Records.{record_text};
+ghost use Rattle.record_core.specs.Values.{pieces};
+ghost use Rattle.room_trace.specs.Records.{heard_value, held_units, outside_cells, parts_value, state_cells, state_cells_of, state_text, unit_pieces, units_of};
+ghost use Rattle.room_trace.specs.StateText.{language_bytes, phys_on, power_text, state_line};
 
 use arrayvec::ArrayVec;
 use device_core::{Device, HeardReport, Port};
 use line_frames::Addr;
-use text_core::{Counted, Kind, Phys, Piece, Sink, WriteFault, hex_digit};
+use record_core::{Cell, Form, Part, Value, add_record, cells};
+use text_core::{Counted, Kind, Phys, Piece, Sink, WriteFault};
 
 /// What a device from outside has in the place of its record, of which nobody but its driver knows more.
-const UNKNOWN_RECORD: &str =
-    " - active=- path=- deck=- menu=- audio=- volume=- mute=- arc=- sel=- lang=- osd=- held=- heard=- sub=- queue=";
+const NONE: Value = Value::One(Piece::Text("-"));
 
 fn power_word(is_on: bool) -> &'static str
     ensures { result.now ≡ power_text is_on }
@@ -25,46 +28,6 @@ fn phys_on_wire(is_on: bool, phys: Phys) -> Option<Phys>
     ensures { result ≡ phys_on is_on phys }
 {
     if is_on { Some(phys) } else { None }
-}
-
-fn unit_digit(unit: Option<Addr>) -> u8
-    ensures { result ∷ [] ≡ unit_text unit }
-{
-    match unit {
-        None => b'-',
-        Some(address) => hex_digit(address.value()),
-    }
-}
-
-// The logical address, and of a box those of both its units.
-fn address_bytes(kind: Kind, held: [Option<Addr>; 2]) -> ArrayVec<u8, 3>
-    ensures { result.items ≡ address_text kind held }
-{
-    let [first, second] = held;
-    let mut bytes = ArrayVec::new();
-    bytes.push(unit_digit(first));
-    if kind == Kind::Combo {
-        bytes.push(b'+');
-        bytes.push(unit_digit(second));
-    }
-    bytes
-}
-
-// The logical addresses that a device from outside holds.
-fn held_bytes(held: [Option<Addr>; 2]) -> ArrayVec<u8, 3>
-    ensures { result.items ≡ held_text held }
-{
-    let [first, second] = held;
-    let mut bytes = ArrayVec::new();
-    bytes.push(unit_digit(first));
-    match second {
-        None => bytes,
-        Some(_) => {
-            bytes.push(b'+');
-            bytes.push(unit_digit(second));
-            bytes
-        }
-    }
 }
 
 fn number_of(address: Option<Addr>) -> Option<u8>
@@ -85,127 +48,230 @@ fn port_number(port: Option<Port>) -> Option<u64>
     }
 }
 
-// The last report that was heard: initiator, opcode and first operand in hex.
-fn note_bytes(note: Option<HeardReport>) -> ArrayVec<u8, 7>
-    ensures { result.items ≡ dash_or note_text note }
+// The logical address, and of a box those of both its units.
+fn units_of(kind: Kind, held: [Option<Addr>; 2]) -> ArrayVec<Piece<'static>, 2>
+    ensures { result.items ≡ unit_pieces (units_of kind held) }
 {
-    let mut bytes = ArrayVec::new();
-    match note {
-        None => bytes.push(b'-'),
-        Some(note) => {
-            bytes.push(hex_digit(note.from.value()));
-            bytes.push(b':');
-            bytes.push(hex_digit(note.opcode / 16));
-            bytes.push(hex_digit(note.opcode % 16));
-            bytes.push(b':');
-            bytes.push(hex_digit(note.first / 16));
-            bytes.push(hex_digit(note.first % 16));
+    let [first, second] = held;
+    let mut units = ArrayVec::new();
+    units.push(Piece::NibbleOrDash(number_of(first)));
+    if kind == Kind::Combo {
+        units.push(Piece::NibbleOrDash(number_of(second)));
+    }
+    units
+}
+
+// The logical addresses that a device from outside holds.
+fn held_units(held: [Option<Addr>; 2]) -> ArrayVec<Piece<'static>, 2>
+    ensures { result.items ≡ unit_pieces (held_units held) }
+{
+    let [first, second] = held;
+    let mut units = ArrayVec::new();
+    units.push(Piece::NibbleOrDash(number_of(first)));
+    match second {
+        None => units,
+        Some(address) => {
+            units.push(Piece::NibbleOrDash(Some(address.value())));
+            units
         }
     }
-    bytes
 }
 
-// The parts of the state line of a device, from the texts of its logical address and of what it heard, and the bytes of its
-// language.
-fn state_pieces<'a>(
+// The last report that was heard: initiator, opcode and first operand in hex.
+fn heard_parts(heard: Option<HeardReport>) -> ArrayVec<Part<'static>, 3>
+    ensures { parts_value result.items ≡ heard_value heard }
+{
+    let mut parts = ArrayVec::new();
+    if let Some(report) = heard {
+        parts.push(Part {
+            name: "initiator",
+            piece: Piece::Nibble(report.from.value()),
+        });
+        parts.push(Part {
+            name: "opcode",
+            piece: Piece::HexByte(report.opcode),
+        });
+        parts.push(Part {
+            name: "first_operand",
+            piece: Piece::HexByte(report.first),
+        });
+    }
+    parts
+}
+
+// The cells of a device's state, from its logical addresses, the bytes of its language and what it heard.
+fn state_cells<'a>(
     device: &'a Device<16>,
-    address: &'a [u8],
+    units: &'a [Piece<'a>],
     language: &'a [u8],
-    heard: &'a [u8],
-) -> [Piece<'a>; 43]
-    ensures { flat_map piece_text result ≡ state_line_of device.now address.now language.now heard.now }
+    heard: &'a [Part<'a>],
+) -> [Cell<'a>; 21]
+    ensures { map plain_of result ≡ state_cells_of device.now (pieces (codes "+") units.now) language.now (parts_value heard.now) }
 {
     let record = device.record();
-    [
-        Piece::Text("state "),
-        Piece::Bytes(device.name()),
-        Piece::Text(" "),
-        Piece::Text(device.kind().word()),
-        Piece::Text(" "),
-        Piece::Bytes(address),
-        Piece::Text(" "),
-        Piece::PhysOrDash(phys_on_wire(device.is_on_wire(), device.phys())),
-        Piece::Text(" "),
-        Piece::Text(power_word(record.power)),
-        Piece::Text(" active="),
-        Piece::PhysOrDash(record.active),
-        Piece::Text(" path="),
-        Piece::PhysOrDash(record.path),
-        Piece::Text(" deck="),
-        Piece::HexByte(record.deck.byte()),
-        Piece::Text(" menu="),
-        Piece::Switch(record.menu),
-        Piece::Text(" audio="),
-        Piece::Switch(record.audio),
-        Piece::Text(" volume="),
-        Piece::Decimal(record.volume.value() as u64),
-        Piece::Text(" mute="),
-        Piece::Switch(record.mute),
-        Piece::Text(" arc="),
-        Piece::Switch(record.arc),
-        Piece::Text(" sel="),
-        Piece::DecimalOrDash(port_number(record.selected)),
-        Piece::Text(" lang="),
-        Piece::Hex(language),
-        Piece::Text(" osd="),
-        Piece::HexOrDash(record.osd.as_slice()),
-        Piece::Text(" held="),
-        Piece::HexByteOrDash(record.held),
-        Piece::Text(" heard="),
-        Piece::Bytes(heard),
-        Piece::Text(" sub="),
-        Piece::NibbleOrDash(number_of(record.sub)),
-        Piece::Text(" queue="),
-        Piece::Decimal(device.queue_len() as u64),
-        Piece::Text(" dropped="),
-        Piece::Decimal(device.dropped()),
-        Piece::Text("\n"),
+    cells![
+        both("state ", "device", Value::One(Piece::Bytes(device.name()))),
+        both(" ", "kind", Value::One(Piece::Text(device.kind().word()))),
+        both(" ", "logical_addresses", Value::List("+", units)),
+        both(
+            " ",
+            "physical_address",
+            Value::One(Piece::PhysOrDash(phys_on_wire(device.is_on_wire(), device.phys())))
+        ),
+        both(
+            " ",
+            "power",
+            Value::One(Piece::Text(power_word(record.power)))
+        ),
+        both(
+            " active=",
+            "active_source",
+            Value::One(Piece::PhysOrDash(record.active))
+        ),
+        both(" path=", "path", Value::One(Piece::PhysOrDash(record.path))),
+        both(
+            " deck=",
+            "deck",
+            Value::One(Piece::HexByte(record.deck.byte()))
+        ),
+        both(" menu=", "menu", Value::One(Piece::Switch(record.menu))),
+        both(
+            " audio=",
+            "system_audio",
+            Value::One(Piece::Switch(record.audio))
+        ),
+        both(
+            " volume=",
+            "volume",
+            Value::One(Piece::Decimal(record.volume.value() as u64))
+        ),
+        both(" mute=", "mute", Value::One(Piece::Switch(record.mute))),
+        both(
+            " arc=",
+            "audio_return_channel",
+            Value::One(Piece::Switch(record.arc))
+        ),
+        both(
+            " sel=",
+            "selected_port",
+            Value::One(Piece::DecimalOrDash(port_number(record.selected)))
+        ),
+        both(" lang=", "menu_language", Value::One(Piece::Hex(language))),
+        both(
+            " osd=",
+            "osd_text",
+            Value::One(Piece::HexOrDash(record.osd.as_slice()))
+        ),
+        both(
+            " held=",
+            "held_key",
+            Value::One(Piece::HexByteOrDash(record.held))
+        ),
+        both(" heard=", "heard", Value::Parts(":", heard)),
+        both(
+            " sub=",
+            "subscriber",
+            Value::One(Piece::NibbleOrDash(number_of(record.sub)))
+        ),
+        both(
+            " queue=",
+            "queued",
+            Value::One(Piece::Decimal(device.queue_len() as u64))
+        ),
+        both(
+            " dropped=",
+            "dropped",
+            Value::One(Piece::Decimal(device.dropped()))
+        ),
     ]
 }
 
-// The parts of the state line of a device from outside, from the texts of its logical addresses and of what is unknown.
-fn outside_pieces<'a>(
-    device: &'a Device<16>,
-    address: &'a [u8],
-    unknown: &'a str,
-) -> [Piece<'a>; 13]
-    ensures { flat_map piece_text result ≡ outside_line_of device.now address.now unknown.now }
+// The same of a device from outside.
+fn outside_cells<'a>(device: &'a Device<16>, units: &'a [Piece<'a>]) -> [Cell<'a>; 21]
+    ensures { map plain_of result ≡ outside_cells device.now (pieces (codes "+") units.now) }
 {
-    [
-        Piece::Text("state "),
-        Piece::Bytes(device.name()),
-        Piece::Text(" "),
-        Piece::Text(device.kind().word()),
-        Piece::Text(" "),
-        Piece::Bytes(address),
-        Piece::Text(" "),
-        Piece::PhysOrDash(phys_on_wire(device.is_on_wire(), device.phys())),
-        Piece::Text(unknown),
-        Piece::Decimal(device.queue_len() as u64),
-        Piece::Text(" dropped="),
-        Piece::Decimal(device.dropped()),
-        Piece::Text("\n"),
+    cells![
+        both("state ", "device", Value::One(Piece::Bytes(device.name()))),
+        both(" ", "kind", Value::One(Piece::Text(device.kind().word()))),
+        both(" ", "logical_addresses", Value::List("+", units)),
+        both(
+            " ",
+            "physical_address",
+            Value::One(Piece::PhysOrDash(phys_on_wire(device.is_on_wire(), device.phys())))
+        ),
+        both(" ", "power", NONE),
+        both(" active=", "active_source", NONE),
+        both(" path=", "path", NONE),
+        both(" deck=", "deck", NONE),
+        both(" menu=", "menu", NONE),
+        both(" audio=", "system_audio", NONE),
+        both(" volume=", "volume", NONE),
+        both(" mute=", "mute", NONE),
+        both(" arc=", "audio_return_channel", NONE),
+        both(" sel=", "selected_port", NONE),
+        both(" lang=", "menu_language", NONE),
+        both(" osd=", "osd_text", NONE),
+        both(" held=", "held_key", NONE),
+        both(" heard=", "heard", NONE),
+        both(" sub=", "subscriber", NONE),
+        both(
+            " queue=",
+            "queued",
+            Value::One(Piece::Decimal(device.queue_len() as u64))
+        ),
+        both(
+            " dropped=",
+            "dropped",
+            Value::One(Piece::Decimal(device.dropped()))
+        ),
     ]
 }
 
-/// Adds the state line of a device.
-pub fn add_state<S: Sink>(out: &mut Counted<'_, S>, device: &Device<16>)
-    ensures { Adds out.old out.new (state_line device.now) }
+// Adds the record of the state of a device from outside.
+fn add_outside<S: Sink>(out: &mut Counted<'_, S>, form: Form, device: &Device<16>)
+    ensures { Adds out.old out.new (record_text form (codes "state") (outside_cells device.now (pieces (codes "+") (unit_pieces (held_units (addresses_held device.now.place)))))) }
 {
-    if device.kind().is_outside() {
-        let address = held_bytes(device.held());
-        out.add_line(&outside_pieces(device, &address, UNKNOWN_RECORD));
-        return;
-    }
+    let units = held_units(device.held());
+    add_record(out, form, "state", &outside_cells(device, &units));
+}
+
+// Adds that of another device.
+fn add_known<S: Sink>(out: &mut Counted<'_, S>, form: Form, device: &Device<16>)
+    ensures { Adds out.old out.new (record_text form (codes "state") (state_cells_of device.now (pieces (codes "+") (unit_pieces (units_of device.now.kind (addresses_held device.now.place))))
+        (language_bytes device.now.record_of.language) (heard_value device.now.record_of.heard))) }
+{
     let record = device.record();
     let language = [
         record.language.first,
         record.language.second,
         record.language.third,
     ];
-    let heard = note_bytes(record.heard);
-    let address = address_bytes(device.kind(), device.held());
-    out.add_line(&state_pieces(device, &address, &language, &heard));
+    let heard = heard_parts(record.heard);
+    let units = units_of(device.kind(), device.held());
+    add_record(
+        out,
+        form,
+        "state",
+        &state_cells(device, &units, &language, &heard),
+    );
+}
+
+// Adds the record of a device's state.
+fn add_state_record<S: Sink>(out: &mut Counted<'_, S>, form: Form, device: &Device<16>)
+    ensures { Adds out.old out.new (record_text form (codes "state") (state_cells device.now)) }
+{
+    if device.kind().is_outside() {
+        add_outside(out, form, device);
+    } else {
+        add_known(out, form, device);
+    }
+}
+
+/// Adds the state line of a device, or its object.
+pub fn add_state<S: Sink>(out: &mut Counted<'_, S>, form: Form, device: &Device<16>)
+    ensures { Adds out.old out.new (state_text form device.now) }
+{
+    add_state_record(out, form, device);
 }
 
 /// Writes it by itself. Returns its length.
@@ -213,7 +279,7 @@ pub fn write_state<S: Sink>(out: &mut S, device: &Device<16>) -> Result<u128, Wr
     ensures { WrittenText (S.contents out.old) (S.contents out.new) (S.is_stuck out.old) (S.is_stuck out.new) (state_line device.now) result }
 {
     let mut text = Counted::new(out);
-    add_state(&mut text, device);
+    add_state(&mut text, Form::Text, device);
     let written = text.written();
     // No effect at run time. The proof reads what `out` holds from the sink that comes back.
     let _below = text.into_sink();

@@ -1,10 +1,12 @@
-//! The lines of a trace that tell events, and its last one.
-ghost use Rattle.std.specs.Prelude.{◌≡◌};
+//! The lines of a trace that tell events, and its last one, or their objects.
+ghost use Rattle.std.specs.Prelude.{◌≡◌, None, Some};
 ghost use Rattle.text_core.specs.Adds.{Adds};
-ghost use Rattle.room_trace.specs.TraceText.{end_line, error_word, event_line, key_word, plug_word, submit_word, unplug_word};
+ghost use Rattle.room_trace.specs.Records.{end_text, event_text};
+ghost use Rattle.room_trace.specs.TraceText.{error_word, key_word, plug_word, submit_word, unplug_word};
 
 use device_core::{KeyError, SubmitError};
 use edid_tree::{PlugError, UnplugError};
+use record_core::{Form, Value, add_record, cells};
 use room_event::EventError;
 use text_core::{Counted, Piece, Sink};
 
@@ -58,31 +60,55 @@ fn error_word(error: EventError) -> &'static str
     }
 }
 
-/// Adds the line of an event: when it was applied, its line in the script, and why it was refused.
-pub fn add_event<S: Sink>(out: &mut Counted<'_, S>, at: u64, line: u64, refused: Option<EventError>)
-    ensures { Adds out.old out.new (event_line at line refused) }
+// Adds an event that was taken.
+fn add_taken<S: Sink>(out: &mut Counted<'_, S>, form: Form, at: u64, line: u64)
+    ensures { Adds out.old out.new (event_text form at line None) }
+{
+    let cells = cells![
+        both("", "at", Value::One(Piece::Decimal(at))),
+        both(" event ", "script_line", Value::One(Piece::Decimal(line))),
+        both(" ", "verdict", Value::One(Piece::Text("ok"))),
+        hidden("cause", Value::Nothing),
+    ];
+    add_record(out, form, "event", &cells);
+}
+
+// Adds an event that was refused.
+fn add_refused<S: Sink>(out: &mut Counted<'_, S>, form: Form, at: u64, line: u64, error: EventError)
+    ensures { Adds out.old out.new (event_text form at line (Some error)) }
+{
+    let cells = cells![
+        both("", "at", Value::One(Piece::Decimal(at))),
+        both(" event ", "script_line", Value::One(Piece::Decimal(line))),
+        both(" ", "verdict", Value::One(Piece::Text("refused"))),
+        both(" ", "cause", Value::One(Piece::Text(error_word(error)))),
+    ];
+    add_record(out, form, "event", &cells);
+}
+
+/// Adds the line of an event, or its object: when it was applied, its line in the script, and why it was refused.
+pub fn add_event<S: Sink>(
+    out: &mut Counted<'_, S>,
+    form: Form,
+    at: u64,
+    line: u64,
+    refused: Option<EventError>,
+)
+    ensures { Adds out.old out.new (event_text form at line refused) }
 {
     match refused {
-        None => out.add_line(&[
-            Piece::Decimal(at),
-            Piece::Text(" event "),
-            Piece::Decimal(line),
-            Piece::Text(" ok\n"),
-        ]),
-        Some(error) => out.add_line(&[
-            Piece::Decimal(at),
-            Piece::Text(" event "),
-            Piece::Decimal(line),
-            Piece::Text(" refused "),
-            Piece::Text(error_word(error)),
-            Piece::Text("\n"),
-        ]),
+        None => add_taken(out, form, at, line),
+        Some(error) => add_refused(out, form, at, line, error),
     }
 }
 
-/// Adds the last line.
-pub fn add_end<S: Sink>(out: &mut Counted<'_, S>, end: u64)
-    ensures { Adds out.old out.new (end_line end) }
+/// Adds the last line, or its object.
+pub fn add_end<S: Sink>(out: &mut Counted<'_, S>, form: Form, end: u64)
+    ensures { Adds out.old out.new (end_text form end) }
 {
-    out.add_line(&[Piece::Decimal(end), Piece::Text(" end\n")]);
+    let cells = cells![
+        both("", "at", Value::One(Piece::Decimal(end))),
+        line(" end", Value::Nothing),
+    ];
+    add_record(out, form, "end", &cells);
 }

@@ -76,6 +76,8 @@ place_of WeekKnown = 50
 place_of YearKnown = 51
 place_of SrgbGamma = 52
 place_of InputKnown = 53
+place_of (Block slip.Reserved) = 54
+place_of (Block slip.Bytes) = 55
 
 placed : (rule : Rule) → slice_get rules (place_of rule) ≡ Some rule
 placed FirstTimingPreferred = refl
@@ -132,6 +134,8 @@ placed WeekKnown = refl
 placed YearKnown = refl
 placed SrgbGamma = refl
 placed InputKnown = refl
+placed (Block slip.Reserved) = refl
+placed (Block slip.Bytes) = refl
 
 every_rule : (rule : Rule) → IsAmong rule rules
 every_rule rule = among_at rule rules (place_of rule) (placed rule)

@@ -29,7 +29,7 @@ rules =
     VideoCapability ∷ RgbRange ∷ TmdsClock ∷ Address ∷ OneHdmi ∷ HdmiVideoCode ∷ ForumAfterHdmi ∷
     CtaForm ∷ CtaRevision ∷ ExtensionTag ∷
     Block slip.Length ∷ BlockOnce ∷ OverrideFirst ∷ OverrideCount ∷ Block slip.Tag ∷ Block slip.AudioFormat ∷ Block slip.HdrBits ∷ Block slip.VideoCode ∷ Block slip.HdmiCode ∷ Block slip.ForumClock ∷ Block slip.ForumScdc ∷ Block slip.ForumRates ∷
-    MapWithinCodes ∷ FastYcc420 ∷ YccRange ∷ Block slip.Latency ∷ FormatsWithinLimits ∷ FormatsNearLimits ∷ TextForm ∷ WeekKnown ∷ YearKnown ∷ SrgbGamma ∷ InputKnown ∷ []
+    MapWithinCodes ∷ FastYcc420 ∷ YccRange ∷ Block slip.Latency ∷ FormatsWithinLimits ∷ FormatsNearLimits ∷ TextForm ∷ WeekKnown ∷ YearKnown ∷ SrgbGamma ∷ InputKnown ∷ Block slip.Reserved ∷ Block slip.Bytes ∷ []
 
 -- an HDMI block has the address of no place in a tree, or in a port's EDID that of the root (HDMI 1.4, section 8.7.3)
 abbrev pub has_ill_address : Origin → List Ext → Bool

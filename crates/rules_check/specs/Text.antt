@@ -33,6 +33,8 @@ rule_severity (Block slip.Latency) = Warn
 rule_severity FormatsNearLimits = Warn
 rule_severity YearKnown = Warn
 rule_severity SrgbGamma = Warn
+rule_severity (Block slip.Reserved) = Warn
+rule_severity (Block slip.Bytes) = Warn
 rule_severity _ = Fail
 
 abbrev pub timing_severity : TimingRule → Severity
@@ -111,21 +113,23 @@ rule_name WeekKnown = codes "week-reserved"
 rule_name YearKnown = codes "year-late"
 rule_name SrgbGamma = codes "srgb-gamma"
 rule_name InputKnown = codes "input-reserved"
+rule_name (Block slip.Reserved) = codes "reserved"
+rule_name (Block slip.Bytes) = codes "length"
 
 abbrev pub timing_rule_name : TimingRule → List ℕ
-timing_rule_name Clock = codes " clock"
-timing_rule_name Fields = codes " timing-zero"
-timing_rule_name HorizontalBackPorch = codes " h-back-porch"
-timing_rule_name VerticalBackPorch = codes " v-back-porch"
-timing_rule_name SizeThere = codes " size-missing"
-timing_rule_name SizeFits = codes " size-differs"
-timing_rule_name WithinLimits = codes " out-of-range"
-timing_rule_name NearLimits = codes " out-of-range"
+timing_rule_name Clock = codes "clock"
+timing_rule_name Fields = codes "timing-zero"
+timing_rule_name HorizontalBackPorch = codes "h-back-porch"
+timing_rule_name VerticalBackPorch = codes "v-back-porch"
+timing_rule_name SizeThere = codes "size-missing"
+timing_rule_name SizeFits = codes "size-differs"
+timing_rule_name WithinLimits = codes "out-of-range"
+timing_rule_name NearLimits = codes "out-of-range"
 
 -- what is broken: a rule, or a rule by a timing
 abbrev pub finding_name : Finding → List ℕ
 finding_name (Edid rule) = rule_name rule
-finding_name (OfTiming number rule) = codes "timing " ++ decimal number ++ timing_rule_name rule
+finding_name (OfTiming number rule) = codes "timing " ++ decimal number ++ codes " " ++ timing_rule_name rule
 
 abbrev pub finding_text : Finding → List ℕ
 finding_text f = severity_word (severity_of f) ++ finding_name f ++ codes "\n"

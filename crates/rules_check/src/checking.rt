@@ -26,15 +26,15 @@ use rules_values::{
     timings_of, video_codes,
 };
 
-/// The most findings of an EDID: 54 rules, and eight for each of 22 timings.
-pub const MAX_FINDINGS: usize = 230;
+/// The most findings of an EDID: 56 rules, and eight for each of 22 timings.
+pub const MAX_FINDINGS: usize = 232;
 /// The least pixel clock of a timing: 10 MHz, in units of 10 kHz.
 const MIN_CLOCK: u16 = 1000;
 /// How much larger or smaller than the display an image may be, in millimetres.
 const SIZE_TOLERANCE: u16 = 9;
 
 /// All rules, in the order in which they are looked at.
-const RULES: [Rule; 54] = [
+const RULES: [Rule; 56] = [
     Rule::FirstTimingPreferred,
     Rule::PreferredTiming,
     Rule::ProductName,
@@ -89,6 +89,8 @@ const RULES: [Rule; 54] = [
     Rule::YearKnown,
     Rule::SrgbGamma,
     Rule::InputKnown,
+    Rule::Block(Slip::Reserved),
+    Rule::Block(Slip::Bytes),
 ];
 
 const TIMING_RULES: [TimingRule; 8] = [
@@ -298,9 +300,9 @@ fn add_edid(
     extensions: &[Ext],
 )
     requires few { length extensions.now ≤ 3 }
-    requires room { array_vec_len found.old + 54 ≤ MAX_FINDINGS }
+    requires room { array_vec_len found.old + 56 ≤ MAX_FINDINGS }
     ensures items { found.new.items ≡ found.old.items ++ edid_findings origin base.now extensions.now }
-    ensures len { array_vec_len found.new ≤ array_vec_len found.old + 54 }
+    ensures len { array_vec_len found.new ≤ array_vec_len found.old + 56 }
 {
     add_rules(found, &RULES, origin, base, extensions);
 }

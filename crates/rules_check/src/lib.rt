@@ -9,4 +9,4 @@ mod text;
 pub use checking::{MAX_FINDINGS, check};
 pub use laws::findings_are_what_is_broken;
 pub use rule::{Finding, Origin, Rule, Severity, TimingRule};
-pub use text::{has_failure, write_findings};
+pub use text::{has_failure, rule_name, timing_rule_name, write_findings};

@@ -14,7 +14,7 @@ use text_core::{Sink, WriteFault, put_all};
 /// The bytes that the longest line has room in.
 const LINE: usize = 40;
 /// The bytes that the lines of all findings have room in: a `LINE` for each.
-const TEXT: usize = 9200;
+const TEXT: usize = 9280;
 
 fn rule_severity(rule: Rule) -> Severity
     ensures { result ≡ rule_severity rule }
@@ -36,7 +36,9 @@ fn rule_severity(rule: Rule) -> Severity
         | Rule::Block(Slip::Latency)
         | Rule::FormatsNearLimits
         | Rule::YearKnown
-        | Rule::SrgbGamma => Severity::Warn,
+        | Rule::SrgbGamma
+        | Rule::Block(Slip::Reserved)
+        | Rule::Block(Slip::Bytes) => Severity::Warn,
         _ => Severity::Fail,
     }
 }
@@ -72,7 +74,8 @@ fn severity_word(severity: Severity) -> &'static str
     }
 }
 
-fn rule_name(rule: Rule) -> &'static str
+/// The name of a rule.
+pub fn rule_name(rule: Rule) -> &'static str
     ensures value { result.now ≡ rule_name rule }
     ensures short { length result.now ≤ 32 }
 {
@@ -131,21 +134,24 @@ fn rule_name(rule: Rule) -> &'static str
         Rule::YearKnown => "year-late",
         Rule::SrgbGamma => "srgb-gamma",
         Rule::InputKnown => "input-reserved",
+        Rule::Block(Slip::Reserved) => "reserved",
+        Rule::Block(Slip::Bytes) => "length",
     }
 }
 
-fn timing_rule_name(rule: TimingRule) -> &'static str
+/// The name of a rule for a detailed timing.
+pub fn timing_rule_name(rule: TimingRule) -> &'static str
     ensures value { result.now ≡ timing_rule_name rule }
     ensures short { length result.now ≤ 16 }
 {
     match rule {
-        TimingRule::Clock => " clock",
-        TimingRule::Fields => " timing-zero",
-        TimingRule::HorizontalBackPorch => " h-back-porch",
-        TimingRule::VerticalBackPorch => " v-back-porch",
-        TimingRule::SizeThere => " size-missing",
-        TimingRule::SizeFits => " size-differs",
-        TimingRule::WithinLimits | TimingRule::NearLimits => " out-of-range",
+        TimingRule::Clock => "clock",
+        TimingRule::Fields => "timing-zero",
+        TimingRule::HorizontalBackPorch => "h-back-porch",
+        TimingRule::VerticalBackPorch => "v-back-porch",
+        TimingRule::SizeThere => "size-missing",
+        TimingRule::SizeFits => "size-differs",
+        TimingRule::WithinLimits | TimingRule::NearLimits => "out-of-range",
     }
 }
 
@@ -158,6 +164,7 @@ fn append_timing(text: &mut ArrayVec<u8, TEXT>, number: u8, rule: TimingRule)
     let mut digits = itoa::Buffer::new();
     append(text, b"timing ");
     append(text, digits.format(u32::from(number)).as_bytes());
+    append(text, b" ");
     append(text, timing_rule_name(rule).as_bytes());
 }
 

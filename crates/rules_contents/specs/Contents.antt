@@ -1,12 +1,13 @@
 -- What the rules ask of what stands in a data block (CTA-861-G, section 7.5, unless another is named).
 use Rattle.std.specs.Prelude.{ℕ, ◌+◌, ◌/◌, ◌%◌, ◌==◌, Bool, true, false, ◌&&◌, ◌||◌, not, nat_lt, if◌then◌else◌, Option, Some, None, List, [], ◌∷◌, length, slice_index, drop}
 use Rattle.std.specs.List.{list_any}
+use Rattle.edid_blocks.specs.Layouts.{cut_of, has_reserved, left_of}
 use Rattle.edid_cta.specs.Audio.{is_audio}
 use Rattle.edid_cta.specs.Hdmi.{is_hdmi}
 use Rattle.edid_cta.specs.declared.block.DataBlock.{DataBlock}
 use Rattle.edid_cta.specs.declared.block.BlockKind.{BlockKind}
 use Rattle.edid_cta.specs.declared.block.BlockKind.TheVariants.{Tag0}
-use Rattle.rules_values.specs.BlockParts.{is_extended_kind, is_video_kind, is_speakers, is_forum, hdmi_of, hdmi_codes}
+use Rattle.rules_values.specs.BlockParts.{is_extended_kind, is_video_kind, is_speakers, is_ill_speakers, is_forum, hdmi_of, hdmi_codes}
 use Rattle.edid_layout.specs.ForumBlock.{forum_block}
 use Rattle.edid_layout.specs.declared.forum_block.ForumBlock.{ForumBlock}
 use Rattle.edid_layout.specs.declared.hdmi_block.Delay.{Delay}
@@ -15,7 +16,7 @@ use Rattle.edid_layout.specs.declared.hdmi_block.Latencies.{Latencies}
 use Rattle.rules_contents.specs.declared.contents.Sort.{Sort}
 use Rattle.rules_contents.specs.declared.contents.Sort.TheVariants.{VideoCapability, Colorimetry, HdrStatic, Map, Speakers, Forum}
 use Rattle.rules_contents.specs.declared.contents.Slip.{Slip}
-use Rattle.rules_contents.specs.declared.contents.Slip.TheVariants.{Length, Tag, AudioFormat, HdrBits, VideoCode, HdmiCode, ForumClock, ForumScdc, ForumRates, Latency}
+use Rattle.rules_contents.specs.declared.contents.Slip.TheVariants.{Length, Tag, AudioFormat, HdrBits, VideoCode, HdmiCode, ForumClock, ForumScdc, ForumRates, Latency, Reserved, Bytes}
 
 -- ---- which block it is
 
@@ -131,6 +132,26 @@ are_late (Some l) interlaced = is_late l.video l.audio || has_late interlaced
 abbrev pub has_late_sound : DataBlock → Bool
 has_late_sound b = is_hdmi b && are_late (hdmi_of b).latencies (hdmi_of b).interlaced_latencies
 
+-- ---- reserved values and lengths of any block that has a table (the clauses are those of the tables of edid_blocks)
+
+-- a rule of its own names the reserved value
+abbrev pub is_named_reserved : DataBlock → Bool
+is_named_reserved b = has_format_zero b || has_reserved_hdr b || has_reserved_code b || has_reserved_hdmi b
+
+abbrev pub has_other_reserved : DataBlock → Bool
+has_other_reserved b = has_reserved b && not (is_named_reserved b)
+
+-- a rule of its own names the length
+abbrev pub is_named_length : DataBlock → Bool
+is_named_length b = has_ill_length b || is_ill_speakers b
+
+-- bytes are missing, or left over
+abbrev pub is_cut_or_left : DataBlock → Bool
+is_cut_or_left b = nat_lt 0 (cut_of b) || nat_lt 0 (left_of b)
+
+abbrev pub has_other_length : DataBlock → Bool
+has_other_length b = is_cut_or_left b && not (is_named_length b)
+
 -- ---- all of them
 
 abbrev pub has_slip : Slip → DataBlock → Bool
@@ -144,3 +165,5 @@ has_slip ForumClock b = has_ill_clock b
 has_slip ForumScdc b = lacks_scdc b
 has_slip ForumRates b = has_ill_rates b
 has_slip Latency b = has_late_sound b
+has_slip Reserved b = has_other_reserved b
+has_slip Bytes b = has_other_length b

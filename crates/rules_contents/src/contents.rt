@@ -1,8 +1,9 @@
 //! What the rules ask of what stands in a data block.
 ghost use Rattle.std.specs.Prelude.{◌≡◌, slice_index};
 ghost use Rattle.std.specs.List.{list_any};
-ghost use Rattle.rules_contents.specs.Contents.{has_extended_tag, is_forum_block, is_of_sort, least_length, has_ill_length, lists_format_zero, has_format_zero, has_reserved_hdr, is_reserved_code, has_reserved_code, is_reserved_hdmi, has_reserved_hdmi, forum_of, is_ill_clock, has_ill_clock, lacks_scdc, are_ill_rates, has_ill_rates, comes_after, is_late, has_late, are_late, has_late_sound, has_slip};
+ghost use Rattle.rules_contents.specs.Contents.{has_extended_tag, is_forum_block, is_of_sort, least_length, has_ill_length, lists_format_zero, has_format_zero, has_reserved_hdr, is_reserved_code, has_reserved_code, is_reserved_hdmi, has_reserved_hdmi, forum_of, is_ill_clock, has_ill_clock, lacks_scdc, are_ill_rates, has_ill_rates, comes_after, is_late, has_late, are_late, has_late_sound, is_named_reserved, has_other_reserved, has_other_length, has_slip};
 
+use edid_blocks::{cut_of, has_reserved, left_of};
 use edid_cta::{BlockKind, DataBlock};
 use edid_layout::{Delay, ForumBlock, Latencies};
 use rules_values::{hdmi_codes, hdmi_of, is_forum, is_speakers};
@@ -37,6 +38,8 @@ const MOST_LEAST_RATE: u16 = 48;
 /// What the greatest rate of variable refresh is at least, in Hz.
 const LEAST_MOST_RATE: u16 = 100;
 
+/// The bytes of a speaker block.
+const SPEAKER_BYTES: usize = 3;
 /// How late sound may be, in milliseconds.
 const MOST_LATE: u32 = 20;
 
@@ -76,6 +79,10 @@ pub enum Slip {
     ForumRates,
     /// Sound that is late.
     Latency,
+    /// A reserved value of a field, which none of the others names.
+    Reserved,
+    /// Bytes that its table lacks, or that are left over, which no other rule names.
+    Bytes,
 }
 
 /// Whether it is an extended block with this tag.
@@ -278,6 +285,29 @@ fn has_late_sound(block: &DataBlock) -> bool
     block.is_hdmi() && are_late(hdmi.latencies, hdmi.interlaced_latencies)
 }
 
+/// Whether a slip of its own names a reserved value of a data block.
+fn is_named_reserved(block: &DataBlock) -> bool
+    ensures { result ≡ is_named_reserved block.now }
+{
+    has_format_zero(block)
+        || has_reserved_hdr(block)
+        || has_reserved_code(block)
+        || has_reserved_hdmi(block)
+}
+
+fn has_other_reserved(block: &DataBlock) -> bool
+    ensures { result ≡ has_other_reserved block.now }
+{
+    has_reserved(block) && !is_named_reserved(block)
+}
+
+fn has_other_length(block: &DataBlock) -> bool
+    ensures { result ≡ has_other_length block.now }
+{
+    (0 < cut_of(block) || 0 < left_of(block))
+        && !(has_ill_length(block) || is_speakers(block) && block.payload.len() != SPEAKER_BYTES)
+}
+
 /// Whether this is wrong in a data block.
 pub fn has_slip(slip: Slip, block: &DataBlock) -> bool
     ensures { result ≡ has_slip slip block.now }
@@ -293,5 +323,7 @@ pub fn has_slip(slip: Slip, block: &DataBlock) -> bool
         Slip::ForumScdc => lacks_scdc(block),
         Slip::ForumRates => has_ill_rates(block),
         Slip::Latency => has_late_sound(block),
+        Slip::Reserved => has_other_reserved(block),
+        Slip::Bytes => has_other_length(block),
     }
 }

@@ -4,6 +4,7 @@
 mod bases;
 mod contents;
 mod extensions;
+mod laws;
 
 pub use bases::{
     has_other_gamma, has_reserved_input, is_ill_text, is_late_year, is_reserved_week, some_ill_text,
@@ -13,3 +14,4 @@ pub use extensions::{
     SORTS, count_of_sort, fixes_ycc_range, has_low_override, has_misplaced_override, overruns,
     some_fixed_ycc, some_other_revision, some_overrun, some_repeated, some_slip, some_unknown,
 };
+pub use laws::{lengths_are_found, reserved_values_are_found};

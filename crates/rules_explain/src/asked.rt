@@ -158,6 +158,12 @@ fn asked_of_extensions(rule: Rule) -> &'static str {
         Rule::InputKnown => {
             "of a digital input bits 6 to 1 are clear in 1.3; in 1.4 bits 6 to 4 are at most 6, and bits 3 to 0 at most 5 (E-EDID A, 3.6.1; 1.4, 3.6.1)"
         }
+        Rule::Block(Slip::Reserved) => {
+            "no field of a data block has a value that its standard reserves (CTA-861-H, 7.5; HDMI 1.4, 8.3.2; HDMI 2.1, 10.3)"
+        }
+        Rule::Block(Slip::Bytes) => {
+            "a data block has all bytes of its fields, and no others (CTA-861-H, 7.5; HDMI 1.4, 8.3.2; HDMI 2.1, 10.3)"
+        }
         _ => "",
     }
 }

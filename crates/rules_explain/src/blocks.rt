@@ -1,5 +1,7 @@
 //! Extensions and data blocks at fault.
+use edid_blocks::{body_of, layout_of, left_of, parts_of};
 use edid_cta::{BlockKind, DataBlock, Ext};
+use edid_fields::{is_reserved, walk};
 use rules_check::Rule;
 use rules_contents::{
     SORTS, Slip, Sort, count_of_sort, has_slip, is_override, some_other_revision, some_overrun,
@@ -65,6 +67,40 @@ pub fn bytes_reported(alloc: Global, block: &DataBlock) -> Result<String, AllocE
     Ok(text)
 }
 
+/// The first field of a data block whose value is reserved, after the block: its name, its place, its value.
+fn field_reported(alloc: Global, block: &DataBlock) -> Result<String, AllocError> {
+    let bytes = bytes_reported(alloc, block)?;
+    if let Some(layout) = layout_of(block) {
+        let walked = walk(parts_of(layout.2), body_of(block, layout));
+        for report in walked.fields.as_slice() {
+            if is_reserved(report) {
+                let (name, value) = (report.row.1, report.value);
+                let byte = report.at / 8 + layout.1.len();
+                return format!(in alloc; "{bytes}, byte {byte}: {name} {value}");
+            }
+        }
+    }
+    Ok(bytes)
+}
+
+/// Whether a data block is too short or too long, after the block.
+fn length_reported(alloc: Global, block: &DataBlock) -> Result<String, AllocError> {
+    let bytes = bytes_reported(alloc, block)?;
+    match left_of(block) {
+        0 => format!(in alloc; "{bytes}, too short"),
+        left => format!(in alloc; "{bytes}, bytes after its fields: {left}"),
+    }
+}
+
+/// What is wrong in a data block.
+fn block_reported(alloc: Global, slip: Slip, block: &DataBlock) -> Result<String, AllocError> {
+    match slip {
+        Slip::Reserved => field_reported(alloc, block),
+        Slip::Bytes => length_reported(alloc, block),
+        _ => bytes_reported(alloc, block),
+    }
+}
+
 /// The first data block in which this is wrong.
 pub fn slip_reported(
     alloc: Global,
@@ -74,7 +110,7 @@ pub fn slip_reported(
     for ext in extensions {
         for block in blocks_of(ext) {
             if has_slip(slip, block) {
-                return Ok(Some(bytes_reported(alloc, block)?));
+                return Ok(Some(block_reported(alloc, slip, block)?));
             }
         }
     }

@@ -32,12 +32,12 @@ tv base map other 256=01 => warn unknown-extension;
 /// The same of data blocks: blocks are put in, or after the others. The audio block of three bytes stands at 137, the speakers at
 /// 141, the HDMI block at 145, the video capabilities at 151.
 pub(crate) const BLOCKS: &str = "\
-tv 130=1b 137=24090707008301000065030c000000e200cf => fail block-length;
-tv 130=1c 137=2509070700008301000065030c000000e200cf => fail block-length;
+tv 130=1b 137=24090707008301000065030c000000e200cf => fail block-length;warn reserved;
+tv 130=1c 137=2509070700008301000065030c000000e200cf => fail block-length;warn reserved;
 tv 130=1d 137=260907070907078301000065030c000000e200cf => none
 tv 130=19 151=e10000 => fail block-length;
 tv 130=1b 154=e0 => fail block-length;
-tv 130=1c 154=e10d => none
+tv 130=1c 154=e10d => warn length;
 tv 130=1d 154=e20500 => fail block-length;
 tv 130=1e 154=e3050000 => none
 tv 130=1c 154=e106 => fail block-length;
@@ -52,12 +52,12 @@ tv 130=1e 154=83010000 => fail block-twice;
 tv 130=2a 154=67d85dc40178000067d85dc401780000 => fail block-twice;
 tv 130=2a 154=67d85dc401780000e779000001780000 => fail block-twice;
 tv 130=2a 154=67d85dc40178000067d85dc501780000 => none
-tv 130=20 154=e20d00e20d00 => none
+tv 130=20 154=e20d00e20d00 => warn reserved;
 tv 19=04 146=04 118=01 cta 258=07 260=e200cf => none
 tv 130=1d 132=e278014490040301230907078301000065030c000000e200cf => none
 tv 130=1d 132=e278054490040301230907078301000065030c000000e200cf => none
 tv 130=1d 132=e278004490040301230907078301000065030c000000e200cf => fail eeodb-count;
-tv 130=1c 132=e1784490040301230907078301000065030c000000e200cf => fail eeodb-count;
+tv 130=1c 132=e1784490040301230907078301000065030c000000e200cf => fail eeodb-count;warn length;
 tv other 130=1d 132=e278014490040301230907078301000065030c000000e200cf => fail block-map;fail eeodb-count;
 tv other 130=1d 132=e278024490040301230907078301000065030c000000e200cf => fail block-map;
 tv 130=1d 154=e27801 => fail eeodb-place;
@@ -70,7 +70,7 @@ tv 130=1b 154=a0 => none
 tv 130=1b 154=c0 => none
 tv 138=01 => fail audio-reserved;
 tv 138=81 => fail audio-reserved;
-tv 138=79 => none
+tv 138=79 => warn reserved;
 tv 130=1d 137=260907070107078301000065030c000000e200cf => fail audio-reserved;
 tv 130=1d 137=260907071107078301000065030c000000e200cf => none
 tv 130=1e 154=e3060f01 => none
@@ -82,13 +82,13 @@ tv 113=0000000000 136=db => none
 tv 136=dc => warn vic-reserved;
 tv 136=de => warn vic-reserved;
 tv 136=ff => warn vic-reserved;
-tv 136=80 => none
+tv 136=80 => warn reserved;
 tv 113=0000000000 130=1d 154=e20edb => none
 tv 130=1d 154=e20edc => warn vic-reserved;
 tv 130=1d 154=e20ddc => none
 tv 130=20 145=6b030c001000b82d20002005e200cf => fail hdmi-vic-reserved;
 tv 130=20 145=6b030c001000b82d20002000e200cf => fail hdmi-vic-reserved;
-tv 130=20 145=6b030c001000b82d20000005e200cf => none
+tv 130=20 145=6b030c001000b82d20000005e200cf => warn reserved;
 tv 130=22 154=67d85dc401780000 => none
 tv 130=22 154=67d85dc401000000 => none
 tv 130=22 154=67d85dc401010000 => fail forum-clock;
@@ -110,6 +110,24 @@ tv 130=25 154=6ad85dc401788000000064 => fail forum-vrr;
 tv 130=25 154=6ad85dc401788000000000 => none
 tv 130=25 154=6ad85dc401788000007000 => none
 tv 130=25 154=6ad85dc401788000003c32 => fail forum-vrr;
+tv 130=22 154=67d85dc402780000 => warn reserved;
+tv 130=22 154=67d85dc401788070 => warn reserved;
+tv 130=22 154=67d85dc401788060 => none
+tv 144=20 => warn reserved;
+tv 144=10 => none
+tv 138=89 => warn reserved;
+tv 140=08 => warn reserved;
+tv 130=1d 154=e20eff => warn vic-reserved;
+tv 130=1d 154=e20e80 => warn reserved;
+tv 130=1d 154=e20dff => warn reserved;
+tv 130=1d 154=e20da1 => none
+tv 130=22 154=e70146d0002600000000000000 => warn length;
+tv 130=21 154=66d85dc4017800 => warn length;
+tv 130=26 154=6bd85dc40178800000000000 => none
+tv 130=27 154=6cd85dc4017880000000000000 => none
+tv 130=1f 154=e405000000 => warn length;
+tv 130=22 154=e7060f0100000000 => warn length;
+tv 130=21 154=e6060f01000000 => none
 ";
 
 /// The same of formats in 4:2:0. The codes are 16, native, 4, 3 and 1; 97, 96, 107 and 106 have a clock of 594 MHz, as 114 and 101
@@ -148,14 +166,14 @@ tv 130=1f 145=6a030c001000b82d80010be200cf => none
 tv 130=1f 145=6a030c001000b82d80010ce200cf => warn latency-order;
 tv 130=1f 145=6a030c001000b82d80000ce200cf => none
 tv 130=1f 145=6a030c001000b82d8001fbe200cf => warn latency-order;
-tv 130=1f 145=6a030c001000b82d8001fce200cf => none
+tv 130=1f 145=6a030c001000b82d8001fce200cf => warn reserved;
 tv 130=1f 145=6a030c001000b82d8001ffe200cf => none
 tv 130=1f 145=6a030c001000b82d800c01e200cf => none
-tv 130=1f 145=6a030c001000b82d00010ce200cf => none
+tv 130=1f 145=6a030c001000b82d00010ce200cf => warn reserved;
 tv 130=21 145=6c030c001000b82dc00101010ce200cf => warn latency-order;
 tv 130=21 145=6c030c001000b82dc00101010be200cf => none
-tv 130=21 145=6c030c001000b82d800101010ce200cf => none
-tv 130=21 145=6c030c001000b82d400101010ce200cf => none
+tv 130=21 145=6c030c001000b82d800101010ce200cf => warn reserved;
+tv 130=21 145=6c030c001000b82d400101010ce200cf => warn reserved;
 tv 117=0e => none
 tv 117=0d => fail out-of-range;fail timing 1 out-of-range;
 tv 117=0d 134=10 133=04 54=011d => fail out-of-range;

@@ -58,6 +58,10 @@ tv 113=0000000000 133=61606b6a 130=1d 154=e20f10 => fail map-past-codes/  the 4:
 tv 130=1d 154=e20f01 => warn ycc420-slow/  a format in 4:2:0 has a pixel clock of 590 MHz at least (HDMI 2.1, 7.1)/  here: extended 0f01/
 tv 153=4f => warn ycc-quantization/  bit 7 of a video capability block is set where the flags have YCbCr: the range of its values can be chosen (CTA-861-G, 7.5.6)/  here: extended 004f/
 tv 130=1f 145=6a030c001000b82d80010ce200cf => warn latency-order/  the audio latency of an HDMI block is at most 20 ms above the video latency (HDMI 1.4, 8.3.2)/  here: vendor 030c001000b82d80010c/
+tv 136=80 => warn reserved/  no field of a data block has a value that its standard reserves (CTA-861-H, 7.5; HDMI 1.4, 8.3.2; HDMI 2.1, 10.3)/  here: video 90040380, byte 3: SVD 128/
+tv 130=22 154=67d85dc402780000 => warn reserved/  no field of a data block has a value that its standard reserves (CTA-861-H, 7.5; HDMI 1.4, 8.3.2; HDMI 2.1, 10.3)/  here: vendor d85dc402780000, byte 3: Version 2/
+tv 130=1c 154=e10d => warn length/  a data block has all bytes of its fields, and no others (CTA-861-H, 7.5; HDMI 1.4, 8.3.2; HDMI 2.1, 10.3)/  here: extended 0d, too short/
+tv 130=1f 154=e405000000 => warn length/  a data block has all bytes of its fields, and no others (CTA-861-H, 7.5; HDMI 1.4, 8.3.2; HDMI 2.1, 10.3)/  here: extended 05000000, bytes after its fields: 1/
 tv 37=80 => fail out-of-range/  video codes, established and standard timings are within the range limits (E-EDID A, 3.10.3.3)/  here: an established timing/
 tv 52=6142 => fail out-of-range/  video codes, established and standard timings are within the range limits (E-EDID A, 3.10.3.3)/  here: standard timing 8/
 tv 19=04 146=04 118=01 136=61 => warn out-of-range/  video codes, established and standard timings are within the range limits; in 1.4 they may be outside (E-EDID 1.4, 3.10.3.3)/  here: video code 97/

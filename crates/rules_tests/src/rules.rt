@@ -74,9 +74,9 @@ tv 135=10 => fail vic-twice;
 tv 135=05 => none
 tv 113=0000000000 134=c1 135=41 => none
 tv 113=0000000000 134=c0 135=40 => fail vic-twice;
-tv 134=80 135=00 => none
-tv 134=00 135=00 => none
-tv 134=80 135=80 => fail vic-twice;
+tv 134=80 135=00 => warn reserved;
+tv 134=00 135=00 => warn reserved;
+tv 134=80 135=80 => fail vic-twice;warn reserved;
 tv 72=023a801871382d40582c450008222100001e 131=f2 => none
 tv 72=023a801871382d40582c450008222100001e 131=f3 => fail native-count;
 tv 72=023a801871382d40582c450008222100001e 131=ff => fail native-count;
@@ -134,8 +134,8 @@ tv 130=20 154=65030c001000 => warn hdmi-twice;
 tv 130=20 154=65030c010000 => none
 tv 130=20 145=6b030c001000b82d20002001e200cf => fail hdmi-vic-without-vic;
 tv 113=0000000000 130=20 145=6b030c001000b82d20002001e200cf 135=5f => none
-tv 130=20 145=6b030c001000b82d20000001e200cf => none
-tv 130=20 145=6b030c001000b82d00002001e200cf => none
+tv 130=20 145=6b030c001000b82d20000001e200cf => warn reserved;
+tv 130=20 145=6b030c001000b82d00002001e200cf => warn reserved;
 tv 113=0000000000 130=21 145=6c030c001000b82d2000400201e200cf 135=5e => fail hdmi-vic-without-vic;
 tv 113=0000000000 130=21 145=6c030c001000b82d2000400201e200cf 135=5e 134=5f => none
 tv 130=22 145=6d030c001000b82da00000002004e200cf => fail hdmi-vic-without-vic;
@@ -160,7 +160,7 @@ tv 134=9f => none
 tv 113=0000000000 134=c0 => none
 tv 113=0000000000 134=c1 => none
 tv 136=81 => fail native-mixed;
-tv 134=80 => none
+tv 134=80 => warn reserved;
 tv 134=85 => none
 tv 134=85 135=94 => none
 tv 134=85 135=86 => fail native-mixed;

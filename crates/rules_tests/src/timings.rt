@@ -55,3 +55,45 @@ tv 19=04 146=04 118=01 112=0c => warn out-of-range;warn timing 1 out-of-range;wa
 tv 154=e703801871382d40582c450008222100001e => fail timing 3 clock;fail timing 3 out-of-range;
 tv 154=023a801871382d40582c450012222100001e => fail timing 3 size-differs;
 ";
+
+/// The same of each established timing alone (VESA DMT, and the makers' own): limits of its field and line rate, cut to whole Hz and
+/// kHz, and a greatest line rate below. The rates are 70.08 Hz and 31.47 kHz, 87.85 and 39.44, 59.94 and 31.47, 66.67 and 35.00, 72.81
+/// and 37.86, 75.00 and 37.50, 56.25 and 35.16, 60.32 and 37.88, 72.19 and 48.08, 75.00 and 46.88, 74.55 and 49.73, 86.96 and 35.52
+/// (of two fields), 60.00 and 48.36, 70.07 and 56.48, 75.03 and 60.02, 75.02 and 79.98, 75.06 and 68.68. The second detailed timing has
+/// 60 Hz and 45 kHz: it is within one of the limits.
+pub(crate) const ESTABLISHED: &str = "\
+tv base 35=800000 113=46461f1f => fail timing 1 out-of-range;fail timing 2 out-of-range;
+tv base 35=800000 113=4646011e => fail out-of-range;fail timing 1 out-of-range;fail timing 2 out-of-range;
+tv base 35=400000 113=57572727 => fail timing 1 out-of-range;fail timing 2 out-of-range;
+tv base 35=400000 113=57570126 => fail out-of-range;fail timing 1 out-of-range;fail timing 2 out-of-range;
+tv base 35=200000 113=3b3b1f1f => fail timing 1 out-of-range;fail timing 2 out-of-range;
+tv base 35=200000 113=3b3b011e => fail out-of-range;fail timing 1 out-of-range;fail timing 2 out-of-range;
+tv base 35=100000 113=42422323 => fail timing 1 out-of-range;fail timing 2 out-of-range;
+tv base 35=100000 113=42420122 => fail out-of-range;fail timing 1 out-of-range;fail timing 2 out-of-range;
+tv base 35=080000 113=48482525 => fail timing 1 out-of-range;fail timing 2 out-of-range;
+tv base 35=080000 113=48480124 => fail out-of-range;fail timing 1 out-of-range;fail timing 2 out-of-range;
+tv base 35=040000 113=4b4b2525 => fail timing 1 out-of-range;fail timing 2 out-of-range;
+tv base 35=040000 113=4b4b0124 => fail out-of-range;fail timing 1 out-of-range;fail timing 2 out-of-range;
+tv base 35=020000 113=38382323 => fail timing 1 out-of-range;fail timing 2 out-of-range;
+tv base 35=020000 113=38380122 => fail out-of-range;fail timing 1 out-of-range;fail timing 2 out-of-range;
+tv base 35=010000 113=3c3c2525 => fail timing 1 out-of-range;fail timing 2 out-of-range;
+tv base 35=010000 113=3c3c0124 => fail out-of-range;fail timing 1 out-of-range;fail timing 2 out-of-range;
+tv base 35=008000 113=48483030 => fail timing 1 out-of-range;fail timing 2 out-of-range;
+tv base 35=008000 113=4848012f => fail out-of-range;fail timing 1 out-of-range;fail timing 2 out-of-range;
+tv base 35=004000 113=4b4b2e2e => fail timing 1 out-of-range;fail timing 2 out-of-range;
+tv base 35=004000 113=4b4b012d => fail out-of-range;fail timing 1 out-of-range;fail timing 2 out-of-range;
+tv base 35=002000 113=4a4a3131 => fail timing 1 out-of-range;fail timing 2 out-of-range;
+tv base 35=002000 113=4a4a0130 => fail out-of-range;fail timing 1 out-of-range;fail timing 2 out-of-range;
+tv base 35=001000 113=56562323 => fail timing 1 out-of-range;fail timing 2 out-of-range;
+tv base 35=001000 113=56560122 => fail out-of-range;fail timing 1 out-of-range;fail timing 2 out-of-range;
+tv base 35=000800 113=3c3c3030 => fail timing 1 out-of-range;fail timing 2 out-of-range;
+tv base 35=000800 113=3c3c012f => fail out-of-range;fail timing 1 out-of-range;
+tv base 35=000400 113=46463838 => fail timing 1 out-of-range;fail timing 2 out-of-range;
+tv base 35=000400 113=46460137 => fail out-of-range;fail timing 1 out-of-range;fail timing 2 out-of-range;
+tv base 35=000200 113=4b4b3c3c => fail timing 1 out-of-range;fail timing 2 out-of-range;
+tv base 35=000200 113=4b4b013b => fail out-of-range;fail timing 1 out-of-range;fail timing 2 out-of-range;
+tv base 35=000100 113=4b4b4f4f => fail timing 1 out-of-range;fail timing 2 out-of-range;
+tv base 35=000100 113=4b4b014e => fail out-of-range;fail timing 1 out-of-range;fail timing 2 out-of-range;
+tv base 35=000080 113=4b4b4444 => fail timing 1 out-of-range;fail timing 2 out-of-range;
+tv base 35=000080 113=4b4b0143 => fail out-of-range;fail timing 1 out-of-range;fail timing 2 out-of-range;
+";

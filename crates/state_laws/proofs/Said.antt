@@ -1,11 +1,9 @@
 -- The words of a state line are those that an expectation of a state may ask for.
-use Rattle.std.proofs.Common.{◌≡◌, ℕ, ◌+◌, ◌/◌, ◌%◌, ◌<◌, ◌^◌, nat_lt, ◌&&◌, ◌⊎◌, inl, inr, Bool, true, false, if◌then◌else◌, codes, length, List, [], ◌∷◌, ◌++◌, Option, Some, None, is_some, slice_get, refl, sym, ap, subst, ◌∙◌, arith, append_assoc, append-nil, true≢false}
+use Rattle.std.proofs.Common.{◌≡◌, ℕ, ◌+◌, ◌/◌, ◌%◌, ◌<◌, ◌≤◌, ◌^◌, nat_lt, ◌&&◌, ◌⊎◌, inl, inr, Bool, true, false, if◌then◌else◌, codes, length, List, [], ◌∷◌, ◌++◌, Option, Some, None, is_some, slice_get, refl, sym, ap, subst, ◌∙◌, arith, append_assoc, true≢false}
 use Rattle.std.specs.Prelude.{decimal}
-use Rattle.std.specs.List.{All, flat_map, list_all}
+use Rattle.std.specs.List.{All, flat_map}
 use Rattle.std.proofs.lemmas.Grind.{common_steps}
-use Rattle.std.proofs.lemmas.Fmt.{decimal_by_steps, decimal_nonempty}
 use Rattle.std.proofs.lemmas.List.Elements.{All-cons, All-nil}
-use Rattle.std.proofs.lemmas.List.Folds.{list_all-append}
 use Rattle.text_core.specs.Bytes.{are_bytes}
 use Rattle.text_core.specs.Kind.{kind_word}
 use Rattle.text_core.specs.Piece.{dash_or, hex_or_dash, hex_text, nibble_text, phys_text, switch_text}
@@ -20,18 +18,18 @@ use Rattle.device_core.specs.Place.{is_on_wire}
 use Rattle.device_core.specs.declared.place.Place.{Place}
 use Rattle.device_core.specs.declared.place.Place.TheVariants.{Off, Polls, Settled}
 use Rattle.room_trace.specs.StateText.{address_text, held_text, language_bytes, note_text, outside_line, phys_on, power_text, state_line_of, unit_text}
-use Rattle.expect_text.specs.Parts.{IsTextOf, has}
+use Rattle.expect_text.specs.Parts.{IsTextOf}
 use Rattle.expect_text.specs.StateTest.{fields}
-use Rattle.expect_text.specs.StateWords.{IsDash, IsStateWord, IsUnit, note_parts, number_parts, physical_parts}
-use Rattle.expect_text.specs.declared.part.Class.TheVariants.{Digit, Hex}
+use Rattle.expect_text.specs.StateWords.{AreBytes, IsDash, IsNumber, IsStateWord, IsUnit, note_parts, physical_parts}
+use Rattle.expect_text.specs.declared.part.Class.TheVariants.{Hex}
 use Rattle.expect_text.specs.declared.part.PatternPart.{PatternPart}
-use Rattle.expect_text.specs.declared.part.PatternPart.TheVariants.{Byte, One, Many}
-use Rattle.expect_text.proofs.Readings.{all_hex, hex_digit}
-use Rattle.state_laws.specs.Lines.{IsSaid, IsSized, IsSmall, StateLinesAreSaid, bytes_of, note_bytes, phys_bytes, spaced}
+use Rattle.expect_text.specs.declared.part.PatternPart.TheVariants.{Byte, One}
+use Rattle.expect_text.proofs.Readings.{hex_digit}
+use Rattle.state_laws.specs.Lines.{IsPort, IsSaid, IsSized, StateLinesAreSaid, bytes_of, note_bytes, phys_bytes, spaced}
 
 -- ---- both of two
 
-and_both : (a b : Bool) → a ≡ true → b ≡ true → (a && b) ≡ true
+pub and_both : (a b : Bool) → a ≡ true → b ≡ true → (a && b) ≡ true
 and_both true b h k = k
 and_both false b h k = absurd (true≢false (sym h))
 
@@ -88,23 +86,6 @@ note_is n h =
       two_digits (Byte 58 ∷ One Hex ∷ One Hex ∷ []) n.opcode (58 ∷ hex_text n.first) opcode (hex_text n.first, refl, byte_is n.first first),
     )
 
--- ---- numbers
-
-digit_at : (n : ℕ) → n < 10 → has Digit (48 + n) ≡ true
-digit_at n l = grind (arith, common_steps)
-
-all_digits : (n : ℕ) → n < 2 ^ 64 → list_all (has Digit) (decimal n) ≡ true
-all_digits = decimal_by_steps (λ n ds. list_all (has Digit) ds ≡ true) (λ n l. and_both (has Digit (48 + n)) true (digit_at n l) refl)
-    (λ n ds l h. list_all-append (has Digit) ds ((48 + n % 10) ∷ []) ∙ and_both (list_all (has Digit) ds) (has Digit (48 + n % 10) && true) h (and_both (has Digit (48 + n % 10)) true (digit_at (n % 10) (omega arith)) refl))
-
-digits_are : (ds : List ℕ) → 0 < length ds → list_all (has Digit) ds ≡ true → IsTextOf number_parts ds
-digits_are [] some h = absurd (omega (arith, some))
-digits_are (d ∷ ds) some h =
-    (d, ds, first_of (has Digit d) (list_all (has Digit) ds) h, refl, (ds, [], second_of (has Digit d) (list_all (has Digit) ds) h, sym (append-nil ds), refl))
-
-number_is : (n : ℕ) → n < 2 ^ 64 → IsTextOf number_parts (decimal n)
-number_is n small = digits_are (decimal n) (decimal_nonempty n small) (all_digits n small)
-
 -- ---- values
 
 abbrev IsSwitch : List ℕ → Type 0
@@ -115,9 +96,6 @@ IsText parts text = IsTextOf parts text ⊎ IsDash text
 
 abbrev byte_parts : List PatternPart
 byte_parts = One Hex ∷ One Hex ∷ []
-
-abbrev bytes_parts : List PatternPart
-bytes_parts = One Hex ∷ One Hex ∷ Many Hex ∷ []
 
 switch_is : (b : Bool) → IsSwitch (switch_text b)
 switch_is true = inl refl
@@ -131,9 +109,9 @@ maybe_byte : (o : Option ℕ) → are_bytes (bytes_of (λ b. b ∷ []) o) ≡ tr
 maybe_byte None h = inr refl
 maybe_byte (Some b) h = inl (byte_is b (first_of (nat_lt b 256) true h))
 
-maybe_number : (o : Option ℕ) → IsSmall o → IsText number_parts (dash_or decimal o)
+maybe_number : (o : Option ℕ) → IsPort o → IsNumber 15 (dash_or decimal o) ⊎ IsDash (dash_or decimal o)
 maybe_number None h = inr refl
-maybe_number (Some n) h = inl (number_is n h)
+maybe_number (Some n) h = inl (n, h, refl)
 
 maybe_note : (o : Option HeardReport) → are_bytes (bytes_of note_bytes o) ≡ true → IsText note_parts (dash_or note_text o)
 maybe_note None h = inr refl
@@ -143,14 +121,9 @@ maybe_nibble : (o : Option ℕ) → IsUnit (dash_or (λ n. nibble_text (n % 16))
 maybe_nibble None = inr refl
 maybe_nibble (Some n) = inl (nibble_is (n % 16) (low n))
 
-hex_is : (b : ℕ) (bs : List ℕ) → are_bytes (b ∷ bs) ≡ true → IsTextOf (One Hex ∷ One Hex ∷ Many Hex ∷ []) (flat_map hex_text (b ∷ bs))
-hex_is b bs h =
-    two_digits (Many Hex ∷ []) b (flat_map hex_text bs) (first_of (nat_lt b 256) (are_bytes bs) h)
-    (flat_map hex_text bs, [], all_hex bs (second_of (nat_lt b 256) (are_bytes bs) h), sym (append-nil (flat_map hex_text bs)), refl)
-
-maybe_hex : (bs : List ℕ) → are_bytes bs ≡ true → IsText bytes_parts (hex_or_dash bs)
-maybe_hex [] h = inr refl
-maybe_hex (b ∷ bs) h = inl (hex_is b bs h)
+maybe_hex : (bs : List ℕ) → are_bytes bs ≡ true → length bs ≤ 16 → AreBytes 1 16 (hex_or_dash bs) ⊎ IsDash (hex_or_dash bs)
+maybe_hex [] h few = inr refl
+maybe_hex (b ∷ bs) h few = inl (b ∷ bs, h, omega arith, few, refl)
 
 -- ---- words
 
@@ -174,7 +147,7 @@ menu_is text h = inr (there (slice_get fields 3) refl, text, refl, h)
 audio_is : (text : List ℕ) → IsSwitch text → IsStateWord (codes "audio=" ++ text)
 audio_is text h = inr (there (slice_get fields 4) refl, text, refl, h)
 
-volume_is : (text : List ℕ) → IsText number_parts text → IsStateWord (codes "volume=" ++ text)
+volume_is : (text : List ℕ) → IsNumber 100 text ⊎ IsDash text → IsStateWord (codes "volume=" ++ text)
 volume_is text h = inr (there (slice_get fields 5) refl, text, refl, h)
 
 mute_is : (text : List ℕ) → IsSwitch text → IsStateWord (codes "mute=" ++ text)
@@ -183,13 +156,13 @@ mute_is text h = inr (there (slice_get fields 6) refl, text, refl, h)
 arc_is : (text : List ℕ) → IsSwitch text → IsStateWord (codes "arc=" ++ text)
 arc_is text h = inr (there (slice_get fields 7) refl, text, refl, h)
 
-selected_is : (text : List ℕ) → IsText number_parts text → IsStateWord (codes "sel=" ++ text)
+selected_is : (text : List ℕ) → IsNumber 15 text ⊎ IsDash text → IsStateWord (codes "sel=" ++ text)
 selected_is text h = inr (there (slice_get fields 8) refl, text, refl, h)
 
-language_is : (text : List ℕ) → IsText bytes_parts text → IsStateWord (codes "lang=" ++ text)
+language_is : (text : List ℕ) → AreBytes 3 3 text ⊎ IsDash text → IsStateWord (codes "lang=" ++ text)
 language_is text h = inr (there (slice_get fields 9) refl, text, refl, h)
 
-osd_is : (text : List ℕ) → IsText bytes_parts text → IsStateWord (codes "osd=" ++ text)
+osd_is : (text : List ℕ) → AreBytes 1 16 text ⊎ IsDash text → IsStateWord (codes "osd=" ++ text)
 osd_is text h = inr (there (slice_get fields 10) refl, text, refl, h)
 
 held_is : (text : List ℕ) → IsText byte_parts text → IsStateWord (codes "held=" ++ text)
@@ -201,10 +174,10 @@ heard_is text h = inr (there (slice_get fields 12) refl, text, refl, h)
 sub_is : (text : List ℕ) → IsUnit text → IsStateWord (codes "sub=" ++ text)
 sub_is text h = inr (there (slice_get fields 13) refl, text, refl, h)
 
-queue_is : (text : List ℕ) → IsTextOf number_parts text → IsStateWord (codes "queue=" ++ text)
+queue_is : (text : List ℕ) → IsNumber 16 text → IsStateWord (codes "queue=" ++ text)
 queue_is text h = inr (there (slice_get fields 14) refl, text, refl, h)
 
-dropped_is : (text : List ℕ) → IsTextOf number_parts text → IsStateWord (codes "dropped=" ++ text)
+dropped_is : (text : List ℕ) → IsNumber 18446744073709551615 text → IsStateWord (codes "dropped=" ++ text)
 dropped_is text h = inr (there (slice_get fields 15) refl, text, refl, h)
 
 power_is : (b : Bool) → IsStateWord (power_text b)
@@ -217,36 +190,54 @@ kind_is k = inl (inr (inr (inl (k, refl))))
 unit_is : (text : List ℕ) → IsUnit text → IsStateWord text
 unit_is text h = inl (inr (inr (inr (inl h))))
 
-pair_is : (first second : List ℕ) → IsUnit first → IsUnit second → IsStateWord ((first ++ 43 ∷ []) ++ second)
-pair_is first second h k = subst IsStateWord (sym (append_assoc first (43 ∷ []) second)) (inl (inr (inr (inr (inr (inl (first, second, refl, h, k)))))))
+pair_is : (n : ℕ) (second : Option ℕ) → IsStateWord ((unit_text (Some n) ++ 43 ∷ []) ++ unit_text second)
+pair_is n second =
+    subst IsStateWord (sym (append_assoc (unit_text (Some n)) (43 ∷ []) (unit_text second)))
+    (inl (inr (inr (inr (inr (inl (inl (unit_text (Some n), unit_text second, refl, nibble_is (n % 16) (low n), maybe_nibble second))))))))
+
+no_pair_is : IsStateWord (codes "-+-")
+no_pair_is = inl (inr (inr (inr (inr (inl (inr refl))))))
 
 place_is : (text : List ℕ) → IsTextOf physical_parts text ⊎ IsDash text → IsStateWord text
 place_is text (inl h) = inl (inr (inr (inr (inr (inr h)))))
 place_is text (inr h) = unit_is text (inr h)
 
-two_are : (kind : Kind) (first second : Option ℕ) → IsStateWord (address_text kind (first ∷ second ∷ []))
-two_are Combo first second = pair_is (unit_text first) (unit_text second) (maybe_nibble first) (maybe_nibble second)
-two_are Tv first second = unit_is (unit_text first) (maybe_nibble first)
-two_are Amp first second = unit_is (unit_text first) (maybe_nibble first)
-two_are Player first second = unit_is (unit_text first) (maybe_nibble first)
-two_are Recorder first second = unit_is (unit_text first) (maybe_nibble first)
-two_are Switch first second = unit_is (unit_text first) (maybe_nibble first)
-two_are Outside first second = unit_is (unit_text first) (maybe_nibble first)
-two_are OutsideTv first second = unit_is (unit_text first) (maybe_nibble first)
+one_is : (first : Option ℕ) → IsStateWord (unit_text first)
+one_is first = unit_is (unit_text first) (maybe_nibble first)
+
+-- the second unit has an address only where the first one has
+abbrev AreInTurn : Option ℕ → Option ℕ → Type 0
+AreInTurn None second = second ≡ None
+AreInTurn (Some n) second = Unit {0}
+
+box_is : (first second : Option ℕ) → AreInTurn first second → IsStateWord (address_text Combo (first ∷ second ∷ []))
+box_is None second h = subst (λ s. IsStateWord (address_text Combo (None ∷ s ∷ []))) (sym h) no_pair_is
+box_is (Some n) second h = pair_is n second
+
+two_are : (kind : Kind) (first second : Option ℕ) → AreInTurn first second → IsStateWord (address_text kind (first ∷ second ∷ []))
+two_are Combo first second h = box_is first second h
+two_are Tv first second h = one_is first
+two_are Amp first second h = one_is first
+two_are Player first second h = one_is first
+two_are Recorder first second h = one_is first
+two_are Switch first second h = one_is first
+two_are Outside first second h = one_is first
+two_are OutsideTv first second h = one_is first
+
+polls_in_turn : (found : Option ℕ) → AreInTurn found None
+polls_in_turn None = refl
+polls_in_turn (Some n) = tt
 
 address_is : (kind : Kind) (place : Place) → IsStateWord (address_text kind (addresses_held place))
-address_is kind Off = two_are kind None None
-address_is kind (Polls found a) = two_are kind found None
-address_is kind (Settled first second) = two_are kind (Some first) second
-
-both_are : (first second : Option ℕ) → IsStateWord (held_text (first ∷ second ∷ []))
-both_are first None = unit_is (unit_text first) (maybe_nibble first)
-both_are first (Some second) = pair_is (unit_text first) (unit_text (Some second)) (maybe_nibble first) (maybe_nibble (Some second))
+address_is kind Off = two_are kind None None refl
+address_is kind (Polls found a) = two_are kind found None (polls_in_turn found)
+address_is kind (Settled first second) = two_are kind (Some first) second tt
 
 held_place_is : (place : Place) → IsStateWord (held_text (addresses_held place))
-held_place_is Off = both_are None None
-held_place_is (Polls found a) = both_are found None
-held_place_is (Settled first second) = both_are (Some first) second
+held_place_is Off = one_is None
+held_place_is (Polls found a) = one_is found
+held_place_is (Settled first None) = one_is (Some first)
+held_place_is (Settled first (Some second)) = pair_is first (Some second)
 
 phys_on_is : (on : Bool) (p : Phys) → are_bytes (phys_bytes p) ≡ true → are_bytes (bytes_of phys_bytes (phys_on on p)) ≡ true
 phys_on_is true p h = h
@@ -261,105 +252,108 @@ more word words h k = All-cons IsStateWord word words h k
 
 -- ---- a line
 
-abbrev last_words : State → List (List ℕ)
+abbrev pub last_words : State → List (List ℕ)
 last_words d = (codes "queue=" ++ decimal (length d.queue)) ∷ (codes "dropped=" ++ decimal d.dropped) ∷ []
+
+below_word : (n : ℕ) → n < 2 ^ 64 → n ≤ 18446744073709551615
+below_word n h = omega (arith, h)
 
 last_are : (d : State) → IsSized d → All IsStateWord (last_words d)
 last_are d h =
-    more (codes "queue=" ++ decimal (length d.queue)) ((codes "dropped=" ++ decimal d.dropped) ∷ []) (queue_is (decimal (length d.queue)) (number_is (length d.queue) h.queue))
-    (more (codes "dropped=" ++ decimal d.dropped) [] (dropped_is (decimal d.dropped) (number_is d.dropped h.dropped)) (All-nil IsStateWord))
+    more (codes "queue=" ++ decimal (length d.queue)) ((codes "dropped=" ++ decimal d.dropped) ∷ []) (queue_is (decimal (length d.queue)) (length d.queue, h.queue, refl))
+    (more (codes "dropped=" ++ decimal d.dropped) [] (dropped_is (decimal d.dropped) (d.dropped, below_word d.dropped h.dropped, refl)) (All-nil IsStateWord))
 
-abbrev known_from_sub : State → List (List ℕ)
+abbrev pub known_from_sub : State → List (List ℕ)
 known_from_sub d = (codes "sub=" ++ dash_or (λ n. nibble_text (n % 16)) d.record_of.sub) ∷ last_words d
 
 known_from_sub_are : (d : State) → IsSized d → All IsStateWord (known_from_sub d)
 known_from_sub_are d h = more (codes "sub=" ++ dash_or (λ n. nibble_text (n % 16)) d.record_of.sub) (last_words d) (sub_is (dash_or (λ n. nibble_text (n % 16)) d.record_of.sub) (maybe_nibble d.record_of.sub)) (last_are d h)
 
-abbrev known_from_heard : State → List (List ℕ)
+abbrev pub known_from_heard : State → List (List ℕ)
 known_from_heard d = (codes "heard=" ++ dash_or note_text d.record_of.heard) ∷ known_from_sub d
 
 known_from_heard_are : (d : State) → IsSized d → All IsStateWord (known_from_heard d)
-known_from_heard_are d h = more (codes "heard=" ++ dash_or note_text d.record_of.heard) (known_from_sub d) (heard_is (dash_or note_text d.record_of.heard) (maybe_note d.record_of.heard h.heard)) (known_from_sub_are d h)
+known_from_heard_are d h = more (codes "heard=" ++ dash_or note_text d.record_of.heard) (known_from_sub d) (heard_is (dash_or note_text d.record_of.heard) (maybe_note d.record_of.heard h.record_of.heard)) (known_from_sub_are d h)
 
-abbrev known_from_held : State → List (List ℕ)
+abbrev pub known_from_held : State → List (List ℕ)
 known_from_held d = (codes "held=" ++ dash_or hex_text d.record_of.held) ∷ known_from_heard d
 
 known_from_held_are : (d : State) → IsSized d → All IsStateWord (known_from_held d)
-known_from_held_are d h = more (codes "held=" ++ dash_or hex_text d.record_of.held) (known_from_heard d) (held_is (dash_or hex_text d.record_of.held) (maybe_byte d.record_of.held h.held)) (known_from_heard_are d h)
+known_from_held_are d h = more (codes "held=" ++ dash_or hex_text d.record_of.held) (known_from_heard d) (held_is (dash_or hex_text d.record_of.held) (maybe_byte d.record_of.held h.record_of.held)) (known_from_heard_are d h)
 
-abbrev known_from_osd : State → List (List ℕ)
+abbrev pub known_from_osd : State → List (List ℕ)
 known_from_osd d = (codes "osd=" ++ hex_or_dash d.record_of.osd.items) ∷ known_from_held d
 
 known_from_osd_are : (d : State) → IsSized d → All IsStateWord (known_from_osd d)
-known_from_osd_are d h = more (codes "osd=" ++ hex_or_dash d.record_of.osd.items) (known_from_held d) (osd_is (hex_or_dash d.record_of.osd.items) (maybe_hex d.record_of.osd.items h.osd)) (known_from_held_are d h)
+known_from_osd_are d h = more (codes "osd=" ++ hex_or_dash d.record_of.osd.items) (known_from_held d) (osd_is (hex_or_dash d.record_of.osd.items) (maybe_hex d.record_of.osd.items h.record_of.osd h.record_of.osd_fits)) (known_from_held_are d h)
 
-abbrev known_from_lang : State → List (List ℕ)
+abbrev pub known_from_lang : State → List (List ℕ)
 known_from_lang d = (codes "lang=" ++ flat_map hex_text (language_bytes d.record_of.language)) ∷ known_from_osd d
 
 known_from_lang_are : (d : State) → IsSized d → All IsStateWord (known_from_lang d)
-known_from_lang_are d h = more (codes "lang=" ++ flat_map hex_text (language_bytes d.record_of.language)) (known_from_osd d) (language_is (flat_map hex_text (language_bytes d.record_of.language)) (inl (hex_is d.record_of.language.first (d.record_of.language.second ∷ d.record_of.language.third ∷ []) h.language))) (known_from_osd_are d h)
+known_from_lang_are d h = more (codes "lang=" ++ flat_map hex_text (language_bytes d.record_of.language)) (known_from_osd d) (language_is (flat_map hex_text (language_bytes d.record_of.language)) (inl (language_bytes d.record_of.language, h.record_of.language, omega arith, omega arith, refl))) (known_from_osd_are d h)
 
-abbrev known_from_sel : State → List (List ℕ)
+abbrev pub known_from_sel : State → List (List ℕ)
 known_from_sel d = (codes "sel=" ++ dash_or decimal d.record_of.selected) ∷ known_from_lang d
 
 known_from_sel_are : (d : State) → IsSized d → All IsStateWord (known_from_sel d)
-known_from_sel_are d h = more (codes "sel=" ++ dash_or decimal d.record_of.selected) (known_from_lang d) (selected_is (dash_or decimal d.record_of.selected) (maybe_number d.record_of.selected h.selected)) (known_from_lang_are d h)
+known_from_sel_are d h = more (codes "sel=" ++ dash_or decimal d.record_of.selected) (known_from_lang d) (selected_is (dash_or decimal d.record_of.selected) (maybe_number d.record_of.selected h.record_of.selected)) (known_from_lang_are d h)
 
-abbrev known_from_arc : State → List (List ℕ)
+abbrev pub known_from_arc : State → List (List ℕ)
 known_from_arc d = (codes "arc=" ++ switch_text d.record_of.arc) ∷ known_from_sel d
 
 known_from_arc_are : (d : State) → IsSized d → All IsStateWord (known_from_arc d)
 known_from_arc_are d h = more (codes "arc=" ++ switch_text d.record_of.arc) (known_from_sel d) (arc_is (switch_text d.record_of.arc) (switch_is d.record_of.arc)) (known_from_sel_are d h)
 
-abbrev known_from_mute : State → List (List ℕ)
+abbrev pub known_from_mute : State → List (List ℕ)
 known_from_mute d = (codes "mute=" ++ switch_text d.record_of.mute) ∷ known_from_arc d
 
 known_from_mute_are : (d : State) → IsSized d → All IsStateWord (known_from_mute d)
 known_from_mute_are d h = more (codes "mute=" ++ switch_text d.record_of.mute) (known_from_arc d) (mute_is (switch_text d.record_of.mute) (switch_is d.record_of.mute)) (known_from_arc_are d h)
 
-abbrev known_from_volume : State → List (List ℕ)
+abbrev pub known_from_volume : State → List (List ℕ)
 known_from_volume d = (codes "volume=" ++ decimal d.record_of.volume) ∷ known_from_mute d
 
 known_from_volume_are : (d : State) → IsSized d → All IsStateWord (known_from_volume d)
-known_from_volume_are d h = more (codes "volume=" ++ decimal d.record_of.volume) (known_from_mute d) (volume_is (decimal d.record_of.volume) (inl (number_is d.record_of.volume h.volume))) (known_from_mute_are d h)
+known_from_volume_are d h = more (codes "volume=" ++ decimal d.record_of.volume) (known_from_mute d) (volume_is (decimal d.record_of.volume) (inl (d.record_of.volume, h.record_of.volume, refl))) (known_from_mute_are d h)
 
-abbrev known_from_audio : State → List (List ℕ)
+abbrev pub known_from_audio : State → List (List ℕ)
 known_from_audio d = (codes "audio=" ++ switch_text d.record_of.audio) ∷ known_from_volume d
 
 known_from_audio_are : (d : State) → IsSized d → All IsStateWord (known_from_audio d)
 known_from_audio_are d h = more (codes "audio=" ++ switch_text d.record_of.audio) (known_from_volume d) (audio_is (switch_text d.record_of.audio) (switch_is d.record_of.audio)) (known_from_volume_are d h)
 
-abbrev known_from_menu : State → List (List ℕ)
+abbrev pub known_from_menu : State → List (List ℕ)
 known_from_menu d = (codes "menu=" ++ switch_text d.record_of.menu) ∷ known_from_audio d
 
 known_from_menu_are : (d : State) → IsSized d → All IsStateWord (known_from_menu d)
 known_from_menu_are d h = more (codes "menu=" ++ switch_text d.record_of.menu) (known_from_audio d) (menu_is (switch_text d.record_of.menu) (switch_is d.record_of.menu)) (known_from_audio_are d h)
 
-abbrev known_from_deck : State → List (List ℕ)
+abbrev pub known_from_deck : State → List (List ℕ)
 known_from_deck d = (codes "deck=" ++ hex_text (deck_info_byte d.record_of.deck)) ∷ known_from_menu d
 
 known_from_deck_are : (d : State) → IsSized d → All IsStateWord (known_from_deck d)
-known_from_deck_are d h = more (codes "deck=" ++ hex_text (deck_info_byte d.record_of.deck)) (known_from_menu d) (deck_is (hex_text (deck_info_byte d.record_of.deck)) (inl (byte_is (deck_info_byte d.record_of.deck) (first_of (nat_lt (deck_info_byte d.record_of.deck) 256) true h.deck)))) (known_from_menu_are d h)
+known_from_deck_are d h = more (codes "deck=" ++ hex_text (deck_info_byte d.record_of.deck)) (known_from_menu d) (deck_is (hex_text (deck_info_byte d.record_of.deck)) (inl (byte_is (deck_info_byte d.record_of.deck) (first_of (nat_lt (deck_info_byte d.record_of.deck) 256) true h.record_of.deck)))) (known_from_menu_are d h)
 
-abbrev known_from_path : State → List (List ℕ)
+abbrev pub known_from_path : State → List (List ℕ)
 known_from_path d = (codes "path=" ++ dash_or phys_text d.record_of.path) ∷ known_from_deck d
 
 known_from_path_are : (d : State) → IsSized d → All IsStateWord (known_from_path d)
-known_from_path_are d h = more (codes "path=" ++ dash_or phys_text d.record_of.path) (known_from_deck d) (path_is (dash_or phys_text d.record_of.path) (maybe_phys d.record_of.path h.path)) (known_from_deck_are d h)
+known_from_path_are d h = more (codes "path=" ++ dash_or phys_text d.record_of.path) (known_from_deck d) (path_is (dash_or phys_text d.record_of.path) (maybe_phys d.record_of.path h.record_of.path)) (known_from_deck_are d h)
 
-abbrev known_from_active : State → List (List ℕ)
+abbrev pub known_from_active : State → List (List ℕ)
 known_from_active d = (codes "active=" ++ dash_or phys_text d.record_of.active) ∷ known_from_path d
 
 known_from_active_are : (d : State) → IsSized d → All IsStateWord (known_from_active d)
-known_from_active_are d h = more (codes "active=" ++ dash_or phys_text d.record_of.active) (known_from_path d) (active_is (dash_or phys_text d.record_of.active) (maybe_phys d.record_of.active h.active)) (known_from_path_are d h)
+known_from_active_are d h = more (codes "active=" ++ dash_or phys_text d.record_of.active) (known_from_path d) (active_is (dash_or phys_text d.record_of.active) (maybe_phys d.record_of.active h.record_of.active)) (known_from_path_are d h)
 
-abbrev words_of_record : State → List (List ℕ)
+abbrev pub words_of_record : State → List (List ℕ)
 words_of_record d = power_text d.record_of.power ∷ known_from_active d
 
 record_is : (d : State) → IsSized d → All IsStateWord (words_of_record d)
 record_is d h = more (power_text d.record_of.power) (known_from_active d) (power_is d.record_of.power) (known_from_active_are d h)
 
-abbrev words_of_line : State → List (List ℕ)
+abbrev pub words_of_line : State → List (List ℕ)
 words_of_line d = kind_word d.kind ∷ address_text d.kind (addresses_held d.place) ∷ dash_or phys_text (phys_on (is_on_wire d) d.phys) ∷ words_of_record d
 
 line_is : (d : State) → IsSized d → All IsStateWord (words_of_line d)
@@ -374,97 +368,97 @@ line_spelled d = refl
 
 -- ---- a device from outside
 
-abbrev unknown_from_sub : State → List (List ℕ)
+abbrev pub unknown_from_sub : State → List (List ℕ)
 unknown_from_sub d = (codes "sub=" ++ codes "-") ∷ last_words d
 
 unknown_from_sub_are : (d : State) → IsSized d → All IsStateWord (unknown_from_sub d)
 unknown_from_sub_are d h = more (codes "sub=" ++ codes "-") (last_words d) (sub_is (codes "-") (inr refl)) (last_are d h)
 
-abbrev unknown_from_heard : State → List (List ℕ)
+abbrev pub unknown_from_heard : State → List (List ℕ)
 unknown_from_heard d = (codes "heard=" ++ codes "-") ∷ unknown_from_sub d
 
 unknown_from_heard_are : (d : State) → IsSized d → All IsStateWord (unknown_from_heard d)
 unknown_from_heard_are d h = more (codes "heard=" ++ codes "-") (unknown_from_sub d) (heard_is (codes "-") (inr refl)) (unknown_from_sub_are d h)
 
-abbrev unknown_from_held : State → List (List ℕ)
+abbrev pub unknown_from_held : State → List (List ℕ)
 unknown_from_held d = (codes "held=" ++ codes "-") ∷ unknown_from_heard d
 
 unknown_from_held_are : (d : State) → IsSized d → All IsStateWord (unknown_from_held d)
 unknown_from_held_are d h = more (codes "held=" ++ codes "-") (unknown_from_heard d) (held_is (codes "-") (inr refl)) (unknown_from_heard_are d h)
 
-abbrev unknown_from_osd : State → List (List ℕ)
+abbrev pub unknown_from_osd : State → List (List ℕ)
 unknown_from_osd d = (codes "osd=" ++ codes "-") ∷ unknown_from_held d
 
 unknown_from_osd_are : (d : State) → IsSized d → All IsStateWord (unknown_from_osd d)
 unknown_from_osd_are d h = more (codes "osd=" ++ codes "-") (unknown_from_held d) (osd_is (codes "-") (inr refl)) (unknown_from_held_are d h)
 
-abbrev unknown_from_lang : State → List (List ℕ)
+abbrev pub unknown_from_lang : State → List (List ℕ)
 unknown_from_lang d = (codes "lang=" ++ codes "-") ∷ unknown_from_osd d
 
 unknown_from_lang_are : (d : State) → IsSized d → All IsStateWord (unknown_from_lang d)
 unknown_from_lang_are d h = more (codes "lang=" ++ codes "-") (unknown_from_osd d) (language_is (codes "-") (inr refl)) (unknown_from_osd_are d h)
 
-abbrev unknown_from_sel : State → List (List ℕ)
+abbrev pub unknown_from_sel : State → List (List ℕ)
 unknown_from_sel d = (codes "sel=" ++ codes "-") ∷ unknown_from_lang d
 
 unknown_from_sel_are : (d : State) → IsSized d → All IsStateWord (unknown_from_sel d)
 unknown_from_sel_are d h = more (codes "sel=" ++ codes "-") (unknown_from_lang d) (selected_is (codes "-") (inr refl)) (unknown_from_lang_are d h)
 
-abbrev unknown_from_arc : State → List (List ℕ)
+abbrev pub unknown_from_arc : State → List (List ℕ)
 unknown_from_arc d = (codes "arc=" ++ codes "-") ∷ unknown_from_sel d
 
 unknown_from_arc_are : (d : State) → IsSized d → All IsStateWord (unknown_from_arc d)
 unknown_from_arc_are d h = more (codes "arc=" ++ codes "-") (unknown_from_sel d) (arc_is (codes "-") (inr (inr refl))) (unknown_from_sel_are d h)
 
-abbrev unknown_from_mute : State → List (List ℕ)
+abbrev pub unknown_from_mute : State → List (List ℕ)
 unknown_from_mute d = (codes "mute=" ++ codes "-") ∷ unknown_from_arc d
 
 unknown_from_mute_are : (d : State) → IsSized d → All IsStateWord (unknown_from_mute d)
 unknown_from_mute_are d h = more (codes "mute=" ++ codes "-") (unknown_from_arc d) (mute_is (codes "-") (inr (inr refl))) (unknown_from_arc_are d h)
 
-abbrev unknown_from_volume : State → List (List ℕ)
+abbrev pub unknown_from_volume : State → List (List ℕ)
 unknown_from_volume d = (codes "volume=" ++ codes "-") ∷ unknown_from_mute d
 
 unknown_from_volume_are : (d : State) → IsSized d → All IsStateWord (unknown_from_volume d)
 unknown_from_volume_are d h = more (codes "volume=" ++ codes "-") (unknown_from_mute d) (volume_is (codes "-") (inr refl)) (unknown_from_mute_are d h)
 
-abbrev unknown_from_audio : State → List (List ℕ)
+abbrev pub unknown_from_audio : State → List (List ℕ)
 unknown_from_audio d = (codes "audio=" ++ codes "-") ∷ unknown_from_volume d
 
 unknown_from_audio_are : (d : State) → IsSized d → All IsStateWord (unknown_from_audio d)
 unknown_from_audio_are d h = more (codes "audio=" ++ codes "-") (unknown_from_volume d) (audio_is (codes "-") (inr (inr refl))) (unknown_from_volume_are d h)
 
-abbrev unknown_from_menu : State → List (List ℕ)
+abbrev pub unknown_from_menu : State → List (List ℕ)
 unknown_from_menu d = (codes "menu=" ++ codes "-") ∷ unknown_from_audio d
 
 unknown_from_menu_are : (d : State) → IsSized d → All IsStateWord (unknown_from_menu d)
 unknown_from_menu_are d h = more (codes "menu=" ++ codes "-") (unknown_from_audio d) (menu_is (codes "-") (inr (inr refl))) (unknown_from_audio_are d h)
 
-abbrev unknown_from_deck : State → List (List ℕ)
+abbrev pub unknown_from_deck : State → List (List ℕ)
 unknown_from_deck d = (codes "deck=" ++ codes "-") ∷ unknown_from_menu d
 
 unknown_from_deck_are : (d : State) → IsSized d → All IsStateWord (unknown_from_deck d)
 unknown_from_deck_are d h = more (codes "deck=" ++ codes "-") (unknown_from_menu d) (deck_is (codes "-") (inr refl)) (unknown_from_menu_are d h)
 
-abbrev unknown_from_path : State → List (List ℕ)
+abbrev pub unknown_from_path : State → List (List ℕ)
 unknown_from_path d = (codes "path=" ++ codes "-") ∷ unknown_from_deck d
 
 unknown_from_path_are : (d : State) → IsSized d → All IsStateWord (unknown_from_path d)
 unknown_from_path_are d h = more (codes "path=" ++ codes "-") (unknown_from_deck d) (path_is (codes "-") (inr refl)) (unknown_from_deck_are d h)
 
-abbrev unknown_from_active : State → List (List ℕ)
+abbrev pub unknown_from_active : State → List (List ℕ)
 unknown_from_active d = (codes "active=" ++ codes "-") ∷ unknown_from_path d
 
 unknown_from_active_are : (d : State) → IsSized d → All IsStateWord (unknown_from_active d)
 unknown_from_active_are d h = more (codes "active=" ++ codes "-") (unknown_from_path d) (active_is (codes "-") (inr refl)) (unknown_from_path_are d h)
 
-abbrev unknown_words : State → List (List ℕ)
+abbrev pub unknown_words : State → List (List ℕ)
 unknown_words d = codes "-" ∷ unknown_from_active d
 
 unknown_is : (d : State) → IsSized d → All IsStateWord (unknown_words d)
 unknown_is d h = more (codes "-") (unknown_from_active d) (unit_is (codes "-") (inr refl)) (unknown_from_active_are d h)
 
-abbrev words_of_outside : State → List (List ℕ)
+abbrev pub words_of_outside : State → List (List ℕ)
 words_of_outside d = kind_word d.kind ∷ held_text (addresses_held d.place) ∷ dash_or phys_text (phys_on (is_on_wire d) d.phys) ∷ unknown_words d
 
 outside_is : (d : State) → IsSized d → All IsStateWord (words_of_outside d)
@@ -478,23 +472,20 @@ outside_spelled d = refl
 
 -- ---- all
 
+abbrev line_by : State → Bool → List ℕ
+line_by d is_strange =
+    if is_strange then outside_line d (held_text (addresses_held d.place))
+    else state_line_of d (address_text d.kind (addresses_held d.place)) (language_bytes d.record_of.language) (dash_or note_text d.record_of.heard)
+
+pub outside_is_said : (d : State) → is_outside d.kind ≡ true → IsSized d → IsSaid d (words_of_outside d)
+outside_is_said d e h = record { spelled = ap (line_by d) e ∙ outside_spelled d; words_are = outside_is d h }
+
+pub line_is_said : (d : State) → is_outside d.kind ≡ false → IsSized d → IsSaid d (words_of_line d)
+line_is_said d e h = record { spelled = ap (line_by d) e ∙ line_spelled d; words_are = line_is d h }
+
 pub state_lines_are_said : StateLinesAreSaid
 state_lines_are_said d h = by (is_outside d.kind) refl
   where
     by : (b : Bool) → is_outside d.kind ≡ b → (words : List (List ℕ)) × IsSaid d words
-    by true e = (
-      words_of_outside d,
-      record {
-        spelled = ap (λ (v : Bool). if v then outside_line d (held_text (addresses_held d.place)) else state_line_of d (address_text d.kind (addresses_held d.place)) (language_bytes d.record_of.language) (dash_or note_text d.record_of.heard)) e
-            ∙ outside_spelled d;
-        words_are = outside_is d h;
-      },
-    )
-    by false e = (
-      words_of_line d,
-      record {
-        spelled = ap (λ (v : Bool). if v then outside_line d (held_text (addresses_held d.place)) else state_line_of d (address_text d.kind (addresses_held d.place)) (language_bytes d.record_of.language) (dash_or note_text d.record_of.heard)) e
-            ∙ line_spelled d;
-        words_are = line_is d h;
-      },
-    )
+    by true e = (words_of_outside d, outside_is_said d e h)
+    by false e = (words_of_line d, line_is_said d e h)

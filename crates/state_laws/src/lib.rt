@@ -3,4 +3,4 @@
 
 mod laws;
 
-pub use laws::state_lines_are_said;
+pub use laws::{state_lines_are_said, state_words_are_said};

@@ -172,8 +172,18 @@ impl Sink for LineBuffer {
 }
 
 /// Writes a line made of these parts, as one `put` where the sink takes it and it is no longer than 1,062
-/// bytes. Returns its length.
+/// bytes, or is one part of bytes. Returns its length.
 pub fn write_line<S: Sink>(out: &mut S, pieces: &[Piece]) -> Result<u128, WriteFault>
+    ensures { WrittenLine (S.contents out.old) (S.contents out.new) (S.is_stuck out.old) (S.is_stuck out.new) (flat_map piece_text pieces.now) result }
+{
+    match pieces {
+        [Piece::Bytes(bytes)] => Ok(u128::from(put_bytes(out, bytes)?)),
+        _ => write_gathered(out, pieces),
+    }
+}
+
+// The same, gathered first.
+fn write_gathered<S: Sink>(out: &mut S, pieces: &[Piece]) -> Result<u128, WriteFault>
     ensures { WrittenLine (S.contents out.old) (S.contents out.new) (S.is_stuck out.old) (S.is_stuck out.new) (flat_map piece_text pieces.now) result }
 {
     let mut line = LineBuffer {

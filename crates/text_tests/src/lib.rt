@@ -1,10 +1,12 @@
-//! Tests of the texts of frames, topologies and scripts: texts and bytes, written by hand from the standard's tables.
+//! Tests of the texts of frames, topologies and scripts, and of forms of lines: texts and bytes, written by hand from the standard's tables.
 #![tactic(auto)]
 
 #[cfg(test)]
 mod cases;
 #[cfg(test)]
 mod error_texts;
+#[cfg(test)]
+mod forms;
 #[cfg(test)]
 mod lists;
 #[cfg(test)]

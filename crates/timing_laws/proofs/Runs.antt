@@ -22,7 +22,7 @@ use Rattle.audit_remarks.specs.declared.free.Previous.{Previous}
 use Rattle.audit_remarks.specs.Attempts.{tries_again}
 use Rattle.audit_remarks.specs.Free.{before_of, final_bit, final_by, free_before, free_due, is_bad_start, last_fall, previous_with, too_soon}
 use Rattle.audit_core.specs.Audit.{Tape, after, come_to, drive_by, falls_until, first_tape, is_folded, lows_of}
-use Rattle.audit_core.specs.Lines.{misfits_text}
+use Rattle.audit_core.specs.Lines.{misfit_lines}
 use Rattle.line_rounds.specs.declared.Seat.{Seat}
 use Rattle.line_rounds.specs.declared.Outcome.{Outcome}
 use Rattle.line_rounds.specs.Round.{IsRound}
@@ -98,9 +98,9 @@ first_edge from (o ∷ os) h l = subst (λ (w : List Stretch). Later from (edges
 
 -- ---- what an audit remarks
 
-unfolded : (b : Bool) (text : List ℕ) → text ≡ [] → (if b then [] else text) ≡ []
-unfolded true text h = refl
-unfolded false text h = h
+unfolded : {X : Type 0} (b : Bool) (xs : List X) → xs ≡ [] → (if b then [] else xs) ≡ []
+unfolded true xs h = refl
+unfolded false xs h = h
 
 until_is : (ending : Ending) (at : ℕ) → ending ≢ Open → falls_until ending at ≡ at
 until_is Complete at h = refl
@@ -124,9 +124,9 @@ apart_over o (p ∷ os) h = let l : o.reading.at < p.reading.begin = h.1 in omeg
 
 -- of a round that comes next nothing is remarked
 round_remarks : (o : Outcome) (os : List Outcome) → AreTimed (o ∷ os) → (edges : List Edge) → edges ≡ edges_of o.wave ++ edges_of (run_wave os)
-    → misfits_text o.reading.ending o.reading.bits.items 0 (lows_before (falls_until o.reading.ending o.reading.at) edges) ≡ []
+    → misfit_lines o.reading.ending o.reading.bits.items 0 (lows_before (falls_until o.reading.ending o.reading.at) edges) ≡ []
 round_remarks o os h edges e =
-    ap (λ (es : List Edge). misfits_text o.reading.ending o.reading.bits.items 0 (lows_before (falls_until o.reading.ending o.reading.at) es)) (e ∙ ap (λ (w : List Stretch). edges_of w ++ edges_of (run_wave os)) h.0.wave)
+    ap (λ (es : List Edge). misfit_lines o.reading.ending o.reading.bits.items 0 (lows_before (falls_until o.reading.ending o.reading.at) es)) (e ∙ ap (λ (w : List Stretch). edges_of w ++ edges_of (run_wave os)) h.0.wave)
     ∙ sender_remarks o.reading.ending (falls_until o.reading.ending o.reading.at) (edges_of (run_wave os)) o.reading.bits.items o.reading.begin h.0.some
     (first_edge (falls_until o.reading.ending o.reading.at) os h.2 (next_by (falls_until o.reading.ending o.reading.at) (o.reading.at + 1) os (omega (arith, u)) (apart_over o os h.1)))
     (let l : o.reading.begin + 2100 + 2400 * length o.reading.bits.items < o.reading.at = h.0.ends in omega (arith, l, u))

@@ -12,7 +12,7 @@ use Rattle.audit_widths.specs.declared.misfit.SlotWidth.TheVariants.{Low, Total}
 use Rattle.audit_widths.specs.declared.misfit.Misfit.{Misfit}
 use Rattle.audit_widths.specs.Lows.{low_at, lows_before, lows_in}
 use Rattle.audit_widths.specs.Misfits.{fits, has_all, is_total, low_misfit, low_window, misfit_of, slot_bit, total_by, total_misfit, total_window, window}
-use Rattle.audit_core.specs.Lines.{misfits_text}
+use Rattle.audit_core.specs.Lines.{misfit_lines}
 
 -- ---- widths in their windows
 
@@ -30,7 +30,7 @@ fit_take (suc n) ending bits slot [] h = tt
 fit_take (suc n) ending bits slot (low ∷ lows) h = (h.0, fit_take n ending bits (slot + 1) lows h.1)
 
 -- of which nothing is remarked
-no_misfits : (ending : Ending) (bits : List Bool) (slot : ℕ) (lows : List LowOf) → AllFit ending bits slot lows → misfits_text ending bits slot lows ≡ []
+no_misfits : (ending : Ending) (bits : List Bool) (slot : ℕ) (lows : List LowOf) → AllFit ending bits slot lows → misfit_lines ending bits slot lows ≡ []
 no_misfits ending bits slot [] h = refl
 no_misfits ending bits slot (low ∷ lows) h = rw (h.0.0, h.0.1) (no_misfits ending bits (slot + 1) lows h.1)
 
@@ -147,7 +147,7 @@ sender_fits ending until rest (bit ∷ bits) begin some over room free =
 -- so nothing is remarked of it
 pub sender_remarks : (ending : Ending) (until : ℕ) (rest : List Edge) (bits : List Bool) (begin : ℕ) → 0 < length bits → Later until rest
     → begin + 2100 + 2400 * length bits < until → Later (begin + 9300 + 2400 * length bits) rest
-    → misfits_text ending bits 0 (lows_before until (edges_of (sender_stretches begin bits) ++ rest)) ≡ []
+    → misfit_lines ending bits 0 (lows_before until (edges_of (sender_stretches begin bits) ++ rest)) ≡ []
 sender_remarks ending until rest bits begin some over room free =
     no_misfits ending bits 0 (lows_before until (edges_of (sender_stretches begin bits) ++ rest))
     (fit_take 161 ending bits 0 (lows_in until (edges_of (sender_stretches begin bits) ++ rest)) (sender_fits ending until rest bits begin some over room free))

@@ -93,23 +93,21 @@ fn faults_are_followed_by_their_explanation(rt: HostRuntime) {
 
 #[test]
 fn a_file_name_is_explained(rt: HostRuntime) {
-    let reported = reported_of(&rt, "run tv.net --explain", b"");
+    let reported = reported_of(&rt, "tv.net --explain", b"");
     let refused = reported.status == 2 && reported.out.is_empty();
     let said = String::from_utf8(reported.err).expect(&rt, "a text");
     let said = said.as_str();
-    let explained = said.contains("tv.net") && said.ends_with("as `hdminet run < FILE`\n");
+    let explained = said.contains("tv.net") && said.ends_with("as `hdminet run FILE`\n");
     expect(&rt, refused && explained, "run", said);
 }
 
 /// A command line that is refused, and the last line of what is said of it.
 const MEANT: &str = "\
-run tv.net =>   a file is read as standard input, after `<`: `hdminet run < FILE`
-mon --audit a.vcd =>   a file is read as standard input, after `<`: `hdminet mon --audit < FILE`
-edid a.bin --hex =>   a file is read as standard input, after `<`: `hdminet edid --hex < FILE`
-tv.net =>   a file is read as standard input, after `<`: `hdminet < FILE`
-rooms/tv =>   a file is read as standard input, after `<`: `hdminet < FILE`
-check a b =>   a file is read as standard input, after `<`: `hdminet check < FILE`
-run a.net b.net --edges --as vcd =>   a file is read as standard input, after `<`: `hdminet run --edges --as vcd < FILE`
+tv.net =>   a file stands after a subcommand: `hdminet run FILE`
+rooms/tv =>   a file stands after a subcommand: `hdminet run FILE`
+run a.net b.net => For more information, try '--help'.
+live tv.net => For more information, try '--help'.
+check - - => For more information, try '--help'.
 help =>   the help is `hdminet --help`, and that of a subcommand `hdminet run --help`
 help run =>   the help is `hdminet --help`, and that of a subcommand `hdminet run --help`
 run --bogus => For more information, try '--help'.
@@ -118,9 +116,9 @@ mon --port 0 => For more information, try '--help'.
 mon --invert=50us => For more information, try '--help'.
 mon --glitch 50 --glitch 50us => For more information, try '--help'.
 mon --signal CEC --from pin => For more information, try '--help'.
-run --strict tv.net --as wav =>   a file is read as standard input, after `<`: `hdminet run --strict --as wav < FILE`
+run --strict tv.net --as wav =>   `--as wav`: vcd, pin or csv
 mon --margin -5 =>   `--margin -5`: a number of microseconds, digits alone and no zero before them, 0 to 300
-mon --from wav a.vcd =>   a file is read as standard input, after `<`: `hdminet mon --from wav < FILE`
+mon --from wav a.vcd =>   `--from wav`: edges, vcd, pin or csv
 ";
 
 #[test]
@@ -182,8 +180,8 @@ edid --merge --rows sound=own => `--rows sound=own`: KIND=ROW, a comma apart, 12
 edid --merge --rows=video=least => `--rows video=least`: KIND=ROW, a comma apart, 12 at most; product, video, audio, maker-video, maker-audio and other take keep or own, hdmi and forum least too, and speakers, capability, colorimetry and hdr keep, own or and
 edid --hex --nth 0 => `--nth 0`: a number, digits alone and no zero before them, 1 or more
 mon --glitch 50us -- => `--glitch 50us`: a number of microseconds, digits alone and no zero before them, 0 to 18446744073709551615
-mon --margin 1s --explain => `--margin 1s`: a number of microseconds, digits alone and no zero before them, 0 to 300|  the subcommands are run, check, step, live, asm, dis, lay, mon and edid; each reads standard input, as `hdminet run < FILE`
---explain mon --margin 1s => `--margin 1s`: a number of microseconds, digits alone and no zero before them, 0 to 300|  the subcommands are run, check, step, live, asm, dis, lay, mon and edid; each reads standard input, as `hdminet run < FILE`
+mon --margin 1s --explain => `--margin 1s`: a number of microseconds, digits alone and no zero before them, 0 to 300|  the subcommands are run, check, step, live, asm, dis, lay, mon and edid; each reads standard input, and all but live a file too, as `hdminet run FILE`
+--explain mon --margin 1s => `--margin 1s`: a number of microseconds, digits alone and no zero before them, 0 to 300|  the subcommands are run, check, step, live, asm, dis, lay, mon and edid; each reads standard input, and all but live a file too, as `hdminet run FILE`
 ";
 
 /// A command line that ends before a value, or has a flag in its place; the flag with what stands for its value; and what the value

@@ -476,7 +476,7 @@ end 9000
 => script line 1: pattern
   line 5 of the input: expect state 5 tv power=on
                                          ^^^^^^^^
-  WORD is one of a state line after the device's name: a kind, logical addresses, a physical address, `on` or `standby`, or KEY=VALUE as `active=1.0.0.0`, `path=-`, `deck=20`, `menu=off`, `audio=on`, `volume=20`, `mute=off`, `arc=off`, `sel=1`, `lang=656e67`, `osd=5456`, `held=41`, `heard=4:90:00`, `sub=5`, `queue=0`, `dropped=0`
+  WORD is one of a state line after the device's name: a kind, logical addresses, a physical address, `on` or `standby`, or KEY=VALUE as `active=1.0.0.0`, `path=-`, `deck=1a`, `menu=off`, `audio=on`, `volume=20`, `mute=off`, `arc=off`, `sel=1`, `lang=656e67`, `osd=5456`, `held=41`, `heard=4:90:00`, `sub=5`, `queue=0`, `dropped=0`
   `power=on`: did you mean `on`?
 --
 check --explain
@@ -489,7 +489,7 @@ end 9000
 => script line 1: pattern
   line 5 of the input: expect state 5 tv not activ=1.0.0.0
                                              ^^^^^^^^^^^^^
-  WORD is one of a state line after the device's name: a kind, logical addresses, a physical address, `on` or `standby`, or KEY=VALUE as `active=1.0.0.0`, `path=-`, `deck=20`, `menu=off`, `audio=on`, `volume=20`, `mute=off`, `arc=off`, `sel=1`, `lang=656e67`, `osd=5456`, `held=41`, `heard=4:90:00`, `sub=5`, `queue=0`, `dropped=0`
+  WORD is one of a state line after the device's name: a kind, logical addresses, a physical address, `on` or `standby`, or KEY=VALUE as `active=1.0.0.0`, `path=-`, `deck=1a`, `menu=off`, `audio=on`, `volume=20`, `mute=off`, `arc=off`, `sel=1`, `lang=656e67`, `osd=5456`, `held=41`, `heard=4:90:00`, `sub=5`, `queue=0`, `dropped=0`
   `activ=1.0.0.0`: did you mean `active=1.0.0.0`?
 --
 check --explain
@@ -502,7 +502,7 @@ end 9000
 => script line 1: pattern
   line 5 of the input: expect state 5 tv off
                                          ^^^
-  WORD is one of a state line after the device's name: a kind, logical addresses, a physical address, `on` or `standby`, or KEY=VALUE as `active=1.0.0.0`, `path=-`, `deck=20`, `menu=off`, `audio=on`, `volume=20`, `mute=off`, `arc=off`, `sel=1`, `lang=656e67`, `osd=5456`, `held=41`, `heard=4:90:00`, `sub=5`, `queue=0`, `dropped=0`
+  WORD is one of a state line after the device's name: a kind, logical addresses, a physical address, `on` or `standby`, or KEY=VALUE as `active=1.0.0.0`, `path=-`, `deck=1a`, `menu=off`, `audio=on`, `volume=20`, `mute=off`, `arc=off`, `sel=1`, `lang=656e67`, `osd=5456`, `held=41`, `heard=4:90:00`, `sub=5`, `queue=0`, `dropped=0`
   no state line has the word `off`
 ";
 

@@ -17,6 +17,9 @@ run --help => --strict
 run --help => --json
 run --help => --room
 dis --help => --meaning
+dis --help => --json
+lay --help => --json
+edid --help => --json
 lay --help => 1 to 64 bytes in lower-case hex
 lay --help => a low drive of 3600 from the fall of a slot on
 lay --help => T past 1000000000000, or BIT neither 0 nor 1
@@ -90,7 +93,12 @@ mon --help => with --from past 67108864
 edid --help => of 128, 256, 384 or 512 bytes: a base block of E-EDID 1.3 or 1.4
 edid --help => in this port, 1 to 15
 edid --help => goes past 512 bytes
---help => ./hdminet edid --text < 
+--help => ./hdminet edid --text examples/living-room.edid.txt
+--help => `check` takes several
+run --help => [FILE]
+check --help => [FILE]...
+check --help => `# Subtest: NAME`
+edid --help => [RECEIVER]
 --version => hdminet 0.1.0;
 ";
 
@@ -153,12 +161,11 @@ run --room
 run --edges --room
 run --json --room --room
 dis --meaning --meaning
-dis --json
+dis --json --json
 asm --meaning
 lay --meaning
-lay --json
+lay --json --json
 lay --explain --explain
-lay faults.lay
 run --json --edges
 run --edges --as vcd --json
 mon --strict --json
@@ -169,6 +176,23 @@ step --json
 live --json --json
 live --json --strict
 live room.net
+live -
+live -- room.net
+room.net
+run a.net b.net
+step - -
+asm a.txt b.txt
+mon a.vcd -
+mon --follow --from pin a.pin b.pin
+edid a.edid b.edid
+edid --hex --merge a.txt b.txt c.txt
+edid --merge a.edid -
+check - -
+check a.test -
+check -- a.test -
+check --plain a.test b.test
+check --json a.test b.test
+check --capture --json a.test b.test
 check --plain --json
 check --json --trace --plain
 check --json --trace --capture
@@ -195,11 +219,7 @@ check --capture --progress
 check --progress --progress
 check --plain --plain
 check --trace --explain --trace
-check film.test
 --strict
-run -- --edges
-run -- --
--- run
 --explain --explain run
 run --explain --explain
 --explain=1 run
@@ -211,7 +231,6 @@ edid --port=
 edid --port=16
 edid --port=1 --port 2
 edid --below=tv --port=1
-run tv.net
 asm --text
 edid --hex --text
 edid --words --text
@@ -224,6 +243,9 @@ edid --port 1 --address 1.0.0.0
 edid --below amp
 edid --port 1 --below tv
 edid --raw --check
+edid --json
+edid --meaning --json
+edid --check --json --json
 edid --nth 1
 edid --text --nth 1
 edid --hex --nth 0
@@ -301,7 +323,6 @@ run --edges --as vcd --named
 run --edges --as pin --drives --named
 run --edges --as vcd --drives --named --named
 run --json --named
-step tv.steps
 ";
 
 /// The program refuses these words.

@@ -220,6 +220,20 @@ fn checks_what_is_passed_on(rt: HostRuntime) {
     );
 }
 
+#[test]
+fn writes_the_rules_as_objects(rt: HostRuntime) {
+    let bytes = display(&rt, "0a d8 f1 31");
+    let object =
+        "{\"line\":\"fail srgb\",\"type\":\"finding\",\"severity\":\"fail\",\"timing\":null,\"rule\":\"srgb\"}\n";
+    for line in ["edid --check --json", "edid --check --json --eeodb"] {
+        let reported = reported_of(&rt, line, bytes.as_slice(), None);
+        let err = b"hdminet: edid: a rule fails\n";
+        ends(&rt, reported, 5, object.as_bytes(), err, line, "objects");
+    }
+    let bytes = display(&rt, "0e d4 f1 31");
+    gives(&rt, "edid --check --json", "no rule", &bytes, "");
+}
+
 /// Flags, and why an input of one byte, or a display without an HDMI block, is refused.
 const REFUSED: &str = "\
 --check => edid: length

@@ -13,7 +13,7 @@ returns-in-Ok g c =
     let spelled : edid_bytes edid ≡ c.args.bytes.now = search rules in
     let old = g.W.Sink.contents c.args.out.now in
     let new = g.W.Sink.contents c.write_found.new.out in
-    let P : List Ext → Type 0 = λ xs. OnOk c.write_found.result (ShowsFound c.args.origin c.in_ok-base.base xs old new) in
-    on_ok c.write_found.result (ShowsFound c.args.origin c.in_ok-base.base edid.extensions.items old new)
-    (ShowsJudged c.args.origin c.args.count c.args.front.now c.args.bytes.now old new)
+    let P : List Ext → Type 0 = λ xs. OnOk c.write_found.result (ShowsFound c.args.origin c.args.form c.in_ok-base.base xs old new) in
+    on_ok c.write_found.result (ShowsFound c.args.origin c.args.form c.in_ok-base.base edid.extensions.items old new)
+    (ShowsJudged c.args.origin c.args.form c.args.count c.args.front.now c.args.bytes.now old new)
     (λ s. (s.0, (edid, spelled, c.in_ok-base.base, c.in_ok-base.ensures, s.1), s.2)) (subst P c.as_slice.ensures.value c.write_found.ensures)

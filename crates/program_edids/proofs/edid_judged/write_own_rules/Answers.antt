@@ -13,6 +13,6 @@ returns-in-Ok g c =
     let spelled : edid_bytes edid ≡ c.args.bytes.now = search rules in
     let old = g.W.Sink.contents c.args.out.now in
     let new = g.W.Sink.contents c.write_found.new.out in
-    let P : List Ext → Type 0 = λ xs. OnOk c.write_found.result (ShowsFound c.args.origin c.in-Ok.base xs old new) in
-    on_ok c.write_found.result (ShowsFound c.args.origin edid.base edid.extensions.items old new) (ShowsOwn c.args.origin c.args.bytes.now old new)
+    let P : List Ext → Type 0 = λ xs. OnOk c.write_found.result (ShowsFound c.args.origin c.args.form c.in-Ok.base xs old new) in
+    on_ok c.write_found.result (ShowsFound c.args.origin c.args.form edid.base edid.extensions.items old new) (ShowsOwn c.args.origin c.args.form c.args.bytes.now old new)
     (λ s. (s.0, (edid, spelled, s.1), s.2)) (subst P c.as_slice.ensures.value c.write_found.ensures)

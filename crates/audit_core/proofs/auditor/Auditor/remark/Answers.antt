@@ -2,8 +2,7 @@ use Rattle.std.proofs.Common.{◌≡◌, List, subst₂}
 use Rattle.line_wave.specs.declared.Edge.{Edge}
 use Rattle.line_frames.specs.declared.Reading.{Reading}
 use Rattle.line_reading.specs.Reports.{listed_as}
-use Rattle.text_core.specs.Adds.{Adds}
-use Rattle.audit_core.specs.Audit.{remarks_text, tape_after, tape_at}
+use Rattle.audit_core.specs.Audit.{remark_lines, tape_after, tape_at}
 use Rattle.audit_core.proofs.auditor.Auditor.remark.Goals as goal
 
 pub returns-clause-kept : goal.returns-clause-kept
@@ -12,5 +11,5 @@ returns-clause-kept g c =
 
 pub returns-clause-written : goal.returns-clause-written
 returns-clause-written g c =
-    subst₂ (λ (edges : List Edge) (reading : Reading). Adds c.args.out.now c.add_remarks.new.out (remarks_text c.args.timing (tape_at edges c.args.self.now) (listed_as reading)))
-    c.new-heard.ensures.edges c.new-heard.ensures.reading c.add_remarks.ensures
+    subst₂ (λ (edges : List Edge) (reading : Reading). g.H.LineHearer.hears c.args.out.now (remark_lines c.args.timing (tape_at edges c.args.self.now) (listed_as reading)) c.hear_remarks.new.out)
+    c.new-heard.ensures.edges c.new-heard.ensures.reading c.hear_remarks.ensures

@@ -11,8 +11,8 @@ returns g c =
     let old = g.W.Sink.contents c.args.out.now in
     let new = g.W.Sink.contents c.write_counted_rules.new.out in
     let given = c.in_ok-given.given.items in
-    let O : Origin → Type 0 = λ o. OnOk c.write_counted_rules.result (ShowsJudged o c.args.count c.args.self.bytes.now c.as_slice.result.now old new) in
-    let P : List ℕ → Type 0 = λ b. OnOk c.write_counted_rules.result (ShowsJudged (origin_of c.args.place) c.args.count c.args.self.bytes.now b old new) in
-    on_ok c.write_counted_rules.result (ShowsJudged (origin_of c.args.place) c.args.count c.args.self.bytes.now given old new) (ShowsCounted c.args.count (Findings c.args.place) c.args.self.bytes.now old new)
-    (counted_rules c.args.count c.args.place c.args.self.bytes.now given old new c.in_ok-given.ensures)
+    let O : Origin → Type 0 = λ o. OnOk c.write_counted_rules.result (ShowsJudged o c.args.form c.args.count c.args.self.bytes.now c.as_slice.result.now old new) in
+    let P : List ℕ → Type 0 = λ b. OnOk c.write_counted_rules.result (ShowsJudged (origin_of c.args.place) c.args.form c.args.count c.args.self.bytes.now b old new) in
+    on_ok c.write_counted_rules.result (ShowsJudged (origin_of c.args.place) c.args.form c.args.count c.args.self.bytes.now given old new) (ShowsCounted c.args.count (Findings c.args.place c.args.form) c.args.self.bytes.now old new)
+    (counted_rules c.args.count c.args.place c.args.form c.args.self.bytes.now given old new c.in_ok-given.ensures)
     (subst P c.as_slice.ensures.value (subst O c.origin_of.ensures c.write_counted_rules.ensures))

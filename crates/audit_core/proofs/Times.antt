@@ -1,0 +1,22 @@
+-- What is said of times and blocks, part by part.
+use Rattle.std.proofs.Common.{◌≡◌, ℕ, List, ◌++◌, Option, option_map, refl}
+use Rattle.line_reading.specs.Readings.{Listed}
+use Rattle.audit_widths.specs.declared.low.Low.{Low}
+use Rattle.audit_widths.specs.Misfits.{drive_within}
+use Rattle.audit_remarks.specs.declared.requests.Request.{Request}
+use Rattle.audit_remarks.specs.Attempts.{failure_of, tries_again}
+use Rattle.audit_remarks.specs.Frames.{delivered_frame}
+use Rattle.audit_remarks.specs.Free.{free_before, too_soon}
+use Rattle.audit_remarks.specs.Series.{series_over}
+use Rattle.audit_notes.specs.Lines.{AuditLine}
+use Rattle.audit_notes.specs.declared.note.AuditNote.{AuditNote}
+use Rattle.audit_notes.specs.declared.note.AuditNote.TheVariants as notes
+use Rattle.audit_core.specs.Lines.{answers_lines, noted}
+use Rattle.audit_core.specs.Audit.{Tape, reading_misfits, times_lines, unfinished_of}
+
+pub times_are : (t : Tape) (x : Listed) (lows : List Low) (drive : Option ℕ) (frame : List ℕ) (waiting : List Request) (series soon low within block attempt : Option AuditNote)
+    → frame ≡ delivered_frame x → waiting ≡ t.waiting → series ≡ option_map notes.BadStarts (series_over t.series x.reported.ending) → soon ≡ option_map notes.Free (too_soon t.previous x (tries_again t.attempts x.reported.bits))
+    → low ≡ option_map notes.LowDrive drive → within ≡ option_map notes.DriveWithin (drive_within lows) → block ≡ option_map notes.Unfinished (unfinished_of x lows)
+    → attempt ≡ option_map notes.Attempt (failure_of t.attempts x.begin (free_before t.previous x.begin) x.reported.bits)
+    → noted series ++ answers_lines x.begin frame waiting ++ noted soon ++ reading_misfits t.series x lows ++ noted low ++ noted within ++ noted block ++ noted attempt ≡ times_lines t x lows drive
+times_are t x lows drive frame waiting series soon low within block attempt f w a b c d e g = rw (f, w, a, b, c, d, e, g) refl

@@ -1,5 +1,0 @@
-use Rattle.std.proofs.Common.{length}
-use Rattle.audit_core.proofs.lines.+add_claims.Given as goal
-
-abbrev pub decreases-add_claims : goal.decreases-add_claims
-decreases-add_claims g l = length l.claims.now

@@ -1,0 +1,4 @@
+pub mod Groups
+pub mod Passed
+pub mod ByKind
+pub mod Ended

@@ -1,0 +1,4 @@
+use Rattle.audit_notes.proofs.records.add_start.Goals as goal
+
+pub returns : goal.returns
+returns g c = rw (c.named.ensures, c.in_section.ensures, c.width_lead.ensures) at c.add_kind.ensures

@@ -1,0 +1,6 @@
+pub mod Kinds
+pub mod Notes
+pub mod Readings
+pub mod Lines
+pub mod Folded
+pub mod Hearing

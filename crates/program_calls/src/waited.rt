@@ -1,0 +1,30 @@
+//! What is waited for at a terminal.
+use cli_words::{CommandChoice, Objects};
+
+/// The line of what a choice waits for, where somebody has to type it.
+pub(crate) fn waited_for(choice: CommandChoice) -> &'static str {
+    match choice {
+        CommandChoice::Run { .. }
+        | CommandChoice::Check(_)
+        | CommandChoice::Step
+        | CommandChoice::Live { .. }
+        | CommandChoice::Json(
+            Objects::Trace { .. } | Objects::Room { .. } | Objects::Test { .. },
+        ) =>
+            "hdminet: waits for a topology and a script on standard input (--help explains them)\n",
+        CommandChoice::CheckCapture { .. } | CommandChoice::Json(Objects::CaptureTest { .. }) => {
+            "hdminet: waits for expectations and a capture on standard input (--help explains them)\n"
+        }
+        CommandChoice::Asm | CommandChoice::Dis { .. } | CommandChoice::Lay { .. } => {
+            "hdminet: waits for frames on standard input (--help explains them)\n"
+        }
+        CommandChoice::Mon(_)
+        | CommandChoice::Follow { .. }
+        | CommandChoice::Json(Objects::Capture { .. }) => {
+            "hdminet: waits for a capture on standard input (--help explains it)\n"
+        }
+        CommandChoice::Edid { .. } => {
+            "hdminet: waits for an EDID on standard input (--help explains it)\n"
+        }
+    }
+}

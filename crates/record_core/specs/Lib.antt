@@ -1,0 +1,5 @@
+pub mod Strings
+pub mod Cells
+pub mod Values
+pub mod Records
+pub mod ReadBack

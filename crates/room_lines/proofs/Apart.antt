@@ -1,0 +1,8 @@
+-- Two rows of a table have other words at some place, or other lengths.
+use Rattle.std.proofs.Common.{◌≡◌, true, refl}
+use Rattle.text_forms.specs.Laws.{all_apart, are_apart}
+use Rattle.room_lines.specs.Topology.{topology_rows}
+
+pub topology_apart : all_apart topology_rows ≡ true
+unfolding all_apart are_apart
+topology_apart = refl

@@ -1,0 +1,5 @@
+use Rattle.std.proofs.Common.{length}
+use Rattle.text_forms.proofs.read.+value_at.Given as goal
+
+abbrev pub decreases-value_at : goal.decreases-value_at
+decreases-value_at l = length l.form.now

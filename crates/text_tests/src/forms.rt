@@ -1,0 +1,199 @@
+//! Lines that are read by a table with each slot: words that stand for themselves, values at their limits and past them, and
+//! which fault comes first.
+use crate::cases::case_holds;
+use room_lines::{TOPOLOGY, TopologyVerb};
+use std::process::Abort;
+use text_core::{AtWord, Kind};
+use text_forms::{FormLine, LineCause, Slot, Value, fitting, read_line};
+
+/// Forms with each slot, by the letter with which a test names them.
+const FORMS: &[(char, &[(Slot, &str)])] = &[
+    (
+        't',
+        &[(Slot::Word, "at"), (Slot::Time, "T"), (Slot::Word, "stop")],
+    ),
+    ('n', &[(Slot::Word, "count"), (Slot::Number, "N")]),
+    (
+        'l',
+        &[
+            (Slot::Word, "pin"),
+            (Slot::Time, "T"),
+            (Slot::Level, "LEVEL"),
+        ],
+    ),
+    ('s', &[(Slot::Word, "audio"), (Slot::Switch, "on|off")]),
+    (
+        'k',
+        &[
+            (Slot::Word, "at"),
+            (Slot::Time, "T"),
+            (Slot::Key, "port"),
+            (Slot::KeyPort, "PORT"),
+        ],
+    ),
+    (
+        'd',
+        &[
+            (Slot::Word, "device"),
+            (Slot::Text, "NAME"),
+            (Slot::Kind, "KIND"),
+            (Slot::Ports, "PORTS"),
+        ],
+    ),
+    (
+        'p',
+        &[
+            (Slot::Word, "plug"),
+            (Slot::Text, "NAME"),
+            (Slot::Port, "PORT"),
+        ],
+    ),
+    (
+        'r',
+        &[
+            (Slot::Word, "send"),
+            (Slot::Text, "NAME"),
+            (Slot::Rest, "FRAME"),
+        ],
+    ),
+];
+
+/// What a line is read as: the letter of its form, or the cause and the word of its fault.
+enum Read<'t> {
+    Line(FormLine<'t, char>),
+    Fault(AtWord<LineCause>),
+}
+
+fn read_form(line: &str) -> Read<'_> {
+    match read_line(FORMS, line.as_bytes()) {
+        Ok(line) => Read::Line(line),
+        Err(fault) => Read::Fault(fault),
+    }
+}
+
+/// Lines of a form, with the letter of the form.
+const READ: &[(&str, char)] = &[
+    ("at 0 stop", 't'),
+    ("at 1000000000000 stop", 't'),
+    ("count 0", 'n'),
+    ("count 18446744073709551615", 'n'),
+    // A greater number counts as the greatest.
+    ("count 18446744073709551616", 'n'),
+    ("pin 5 0", 'l'),
+    ("pin 5 1", 'l'),
+    ("audio on", 's'),
+    ("audio off", 's'),
+    ("at 7 port 15", 'k'),
+    ("device tv tv 15", 'd'),
+    ("device  amp 0", 'd'),
+    ("plug p1 300", 'p'),
+    ("send p1 4>0", 'r'),
+    ("send p1 4>0 give-osd-name", 'r'),
+    ("send p1 ", 'r'),
+];
+
+/// Lines at fault: the cause, and the word, counted from 0.
+const REFUSED: &[(&str, LineCause, usize)] = &[
+    ("", LineCause::Word, 0),
+    ("stop", LineCause::Word, 0),
+    ("at", LineCause::Word, 1),
+    ("at 5", LineCause::Word, 2),
+    ("at 5 stop now", LineCause::Word, 3),
+    ("at 5 halt", LineCause::Word, 2),
+    // No form has these words, so that the word is at fault, and not the number before it.
+    ("at x halt", LineCause::Word, 2),
+    ("at x stop", LineCause::Number, 1),
+    ("at 01 stop", LineCause::Number, 1),
+    ("at 1000000000001 stop", LineCause::Number, 1),
+    ("count ", LineCause::Number, 1),
+    ("pin 5 2", LineCause::Number, 2),
+    ("pin 5 on", LineCause::Number, 2),
+    ("audio ON", LineCause::Word, 1),
+    ("audio 1", LineCause::Word, 1),
+    // The port of a key comes before the time, though the time stands first.
+    ("at x port y", LineCause::Number, 3),
+    ("at x port 1", LineCause::Number, 1),
+    ("device a avr x", LineCause::Word, 2),
+    ("device a amp x", LineCause::Number, 3),
+    ("device a amp 16", LineCause::Number, 3),
+    ("device a amp", LineCause::Word, 3),
+    ("send p1", LineCause::Word, 2),
+];
+
+#[test]
+fn lines_have_their_forms(rt: HostRuntime) {
+    for (line, letter) in READ {
+        let is_so = match read_form(line) {
+            Read::Line(found) => found.verb == *letter,
+            Read::Fault(_) => false,
+        };
+        case_holds(&rt, is_so, line);
+    }
+}
+
+#[test]
+fn the_first_fault_is_told(rt: HostRuntime) {
+    for (line, cause, word) in REFUSED {
+        let is_so = match read_form(line) {
+            Read::Line(_) => false,
+            Read::Fault(fault) => fault.cause == *cause && fault.word == *word,
+        };
+        case_holds(&rt, is_so, line);
+    }
+}
+
+fn line_of<'t>(rt: &impl Abort, line: &'t str) -> FormLine<'t, char> {
+    match read_form(line) {
+        Read::Line(found) => found,
+        Read::Fault(_) => panic!(rt; "{line}"),
+    }
+}
+
+#[test]
+fn values_stand_at_their_places(rt: HostRuntime) {
+    assert!(rt; line_of(&rt, "at 1000000000000 stop").number(1) == 1_000_000_000_000);
+    assert!(rt; line_of(&rt, "count 18446744073709551616").number(1) == u64::MAX);
+    assert!(rt; line_of(&rt, "at 5 stop").number(2) == 0);
+    assert!(rt; line_of(&rt, "at 5 stop").number(9) == 0);
+    assert!(rt; line_of(&rt, "plug p1 300").port(2) == 255);
+    assert!(rt; line_of(&rt, "plug p1 255").port(2) == 255);
+    assert!(rt; line_of(&rt, "plug p1 3").ports(2) == 0);
+    let device = line_of(&rt, "device low amp 15");
+    assert!(rt; device.text(1) == b"low".as_slice());
+    assert!(rt; device.kind(2) == Kind::Amp);
+    assert!(rt; device.ports(3) == 15);
+    assert!(rt; device.kind(1) == Kind::Tv);
+    assert!(rt; matches!(line_of(&rt, "pin 5 1").value(2), Value::Level(true)));
+    assert!(rt; matches!(line_of(&rt, "pin 5 0").value(2), Value::Level(false)));
+    assert!(rt; matches!(line_of(&rt, "audio on").value(1), Value::Level(true)));
+    assert!(rt; matches!(line_of(&rt, "audio off").value(0), Value::Itself));
+    let Value::Rest(frame) = line_of(&rt, "send p1 4>0 give-osd-name").value(2) else {
+        panic!(rt; "the words of a frame");
+    };
+    assert!(rt; frame == b"4>0 give-osd-name".as_slice());
+}
+
+#[test]
+fn words_fit_from_the_left(rt: HostRuntime) {
+    let (_, form) = FORMS[0];
+    assert!(rt; fitting(form, None) == 0);
+    assert!(rt; fitting(form, Some(b"at x")) == 2);
+    assert!(rt; fitting(form, Some(b"at x stop here")) == 3);
+    assert!(rt; fitting(form, Some(b"stop x at")) == 0);
+}
+
+/// The line of a topology that a text is.
+fn topology_line(line: &str) -> Option<TopologyVerb> {
+    match read_line(TOPOLOGY, line.as_bytes()) {
+        Ok(found) => Some(found.verb),
+        Err(_) => None,
+    }
+}
+
+#[test]
+fn topologies_have_three_forms(rt: HostRuntime) {
+    assert!(rt; topology_line("device tv tv 4") == Some(TopologyVerb::Device));
+    assert!(rt; topology_line("plug p1 tv 1") == Some(TopologyVerb::Plug));
+    assert!(rt; topology_line("edid 00ff") == Some(TopologyVerb::Edid));
+    assert!(rt; topology_line("script").is_none());
+}
