@@ -80,35 +80,8 @@ pub(super) fn bytes_of(rt: &(impl Abort + AllocGlobal), digits: &str) -> Vec<u8>
 }
 
 /// The program writes this text for the bytes of these digits, with these words.
-pub(super) fn gives_of_hex(
-    rt: &(impl Abort + AllocGlobal),
-    line: &str,
-    name: &str,
-    digits: &str,
-    text: &str,
-) {
+fn gives_of_hex(rt: &(impl Abort + AllocGlobal), line: &str, name: &str, digits: &str, text: &str) {
     gives(rt, line, name, &bytes_of(rt, digits), text);
-}
-
-/// The program finds this in the EDID of these digits, and ends with status 5 where a rule fails.
-pub(super) fn finds_of_hex(rt: &(impl Abort + AllocGlobal), name: &str, digits: &str, want: &str) {
-    let reported = reported_of(rt, "edid --check", bytes_of(rt, digits).as_slice(), None);
-    let fails = want.lines().any(|line| line.starts_with("fail"));
-    let (status, err) = if fails {
-        (5, "hdminet: edid: a rule fails\n")
-    } else {
-        (0, "")
-    };
-    let bytes = want.as_bytes();
-    ends(
-        rt,
-        reported,
-        status,
-        bytes,
-        err.as_bytes(),
-        "edid --check",
-        name,
-    );
 }
 
 /// The program writes this text for the bytes of these digits.

@@ -4,12 +4,7 @@ use super::*;
 use std::process::Abort;
 
 /// The program writes these stretches, in some of which tests fail, and says so with status 1.
-pub(super) fn fails_in_range(
-    rt: &(impl Abort + AllocGlobal),
-    line: &str,
-    input: &[u8],
-    want: &str,
-) {
+fn fails_in_range(rt: &(impl Abort + AllocGlobal), line: &str, input: &[u8], want: &str) {
     let reported = reported_of(rt, line, input, None);
     let fault = b"hdminet: failed tests in the range\n";
     ends(rt, reported, 1, want.as_bytes(), fault, line, want);
