@@ -11,7 +11,7 @@ use crate::marks::append_marks;
 use crate::remarks::add_wanted;
 use crate::wanted::plain_text;
 use capture_core::Capture;
-use capture_monitor::watch_capture;
+use audit_core::watch_capture;
 use expect_run::{ReportDraft, Tally, add_plan, open_report, tally_of};
 use expect_text::ExpectCause;
 use std::alloc::{AllocError, Global};

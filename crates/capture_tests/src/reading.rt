@@ -2,7 +2,7 @@
 use crate::rows::ROWS;
 use capture_core::Capture;
 use capture_forms::{CaptureError, CaptureForm, read_capture};
-use capture_monitor::watch_from_idle;
+use audit_core::watch_from_idle;
 use capture_pin::lost_lines;
 use capture_smooth::smooth_edges;
 use std::process::Abort;
