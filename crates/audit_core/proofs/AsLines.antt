@@ -4,9 +4,10 @@ use Rattle.std.proofs.lemmas.Grind.{flat_map-append}
 use Rattle.line_reading.specs.Readings.{Listed}
 use Rattle.capture_core.specs.Edges.{Captured}
 use Rattle.record_core.specs.declared.cell.Form.TheVariants.{Text}
-use Rattle.capture_monitor.specs.Watch.{listed_line}
+use Rattle.capture_monitor.specs.Watch.{listed_line, readings_text}
 use Rattle.audit_notes.specs.Lines.{AuditLine, line_text, lines_text}
-use Rattle.audit_core.specs.Audit.{AuditsAreLines, ReadingsAreLines, Tape, after, after_all, audit_lines, audit_text_of, first_tape, heard_all, heard_lines, line_and_remarks, reported_all, summary_lines, summary_text}
+use Rattle.audit_notes.specs.Lines.AuditLine.{Reading}
+use Rattle.audit_core.specs.Audit.{AuditsAreLines, Tape, after, after_all, audit_lines, audit_text_of, first_tape, heard_all, heard_lines, line_and_remarks, reported_all, summary_lines, summary_text}
 
 heard_text : (timing : Bool) (t : Tape) (xs : List Listed) → lines_text Text (heard_all timing t xs) ≡ reported_all timing t xs
 heard_text timing t [] = refl
@@ -18,6 +19,6 @@ are_lines timing c xs =
     flat_map-append (line_text Text) (heard_all timing (first_tape c.edges) xs) (summary_lines c.end (after_all (first_tape c.edges) xs))
     ∙ ap (λ (l : List ℕ). l ++ summary_text c.end (after_all (first_tape c.edges) xs)) (heard_text timing (first_tape c.edges) xs)
 
-pub readings_lines : ReadingsAreLines
+pub readings_lines : (xs : List Listed) → lines_text Text (map Reading xs) ≡ readings_text xs
 readings_lines [] = refl
 readings_lines (x ∷ xs) = ap (λ (l : List ℕ). listed_line x ++ l) (readings_lines xs)

@@ -1,5 +1,5 @@
 //! The line and the object of each kind of note.
-use audit_notes::{AuditNote, LineHearer, LineWriter, SpreadKind, WidthSummary};
+use audit_notes::{AuditNote, LineHearer, LineWriter, SpreadKind, Strict, WidthSummary};
 use audit_remarks::{
     BadStartSeries, Failure, FrameCount, FrameHead, Mention, Missing, Receivers, Request, TooSoon,
 };
@@ -211,6 +211,26 @@ fn each_kind_of_note_has_its_line_and_its_object(rt: HostRuntime) {
             line,
         );
     }
+}
+
+/// A remark counts wherever it stands, and a note does not.
+#[test]
+fn a_remark_counts_wherever_it_stands(rt: HostRuntime) {
+    let mut text = Vec::new(rt.alloc());
+    let mut sink = Writes::new(&mut text);
+    let mut lines = Strict {
+        hearer: Counted::new(&mut sink),
+        remarked: false,
+    };
+    lines.note(AuditNote::Moved(1, ONE));
+    lines.note(AuditNote::Summary);
+    let before = lines.remarked;
+    lines.note(AuditNote::Free(TooSoon {
+        free: 7199,
+        due: 7200,
+    }));
+    lines.word("give-features");
+    holds(&rt, !before && lines.remarked, "a remark");
 }
 
 fn written(rt: &(impl Abort + AllocGlobal), form: Form, note: AuditNote) -> Vec<u8> {

@@ -1,5 +1,5 @@
 -- A capture by its edges and its end.
-use Rattle.std.proofs.Common.{◌≡◌, ℕ, zero, suc, Bool, true, false, map, sym, ◌++◌, ◌∷◌, List, [], Option, Some, None, Err, min, refl, ap, subst, append-nil, ◌∙◌}
+use Rattle.std.proofs.Common.{◌≡◌, ℕ, zero, suc, ◌&&◌, Bool, true, false, map, sym, ◌++◌, ◌∷◌, List, [], Option, Some, None, Err, min, refl, ap, subst, append-nil, ◌∙◌}
 use Rattle.line_reading.specs.Windows.{most_margin, standard, wider}
 use Rattle.line_reading.specs.declared.times.Windows.{Windows}
 use Rattle.capture_monitor.proofs.ReadBy.{standard_readings}
@@ -39,6 +39,19 @@ readings_are (suc n) windows c e = ap (λ w. captured_by w c) e
 
 never : false ≡ true → ⊥
 never e = cc
+
+-- what makes no fault is not strict, or has no remark
+pub no_remark : (strict remarked : Bool) → (strict && remarked) ≡ false → strict ≡ true → remarked ≡ false
+no_remark true remarked none is = none
+no_remark false remarked none is = absurd (never is)
+
+-- along two that are the same
+pub along : {A : Type 0} {x y : A} → x ≡ y → (P : A → Type 0) → P x → P y
+along e P one = subst P e one
+
+-- a text that is put, by another name
+pub put_as : (old new : Option (List ℕ)) (x y : List ℕ) → x ≡ y → Appends old new x → Appends old new y
+put_as old new x y e one = subst (λ (text : List ℕ). Appends old new text) e one
 
 -- ---- as its lines come
 

@@ -1,5 +1,5 @@
 //! What is reported of a capture.
-ghost use Rattle.std.specs.Prelude.{◌≡◌, ◌≤◌, min, IfOk, List, OnOk, false, true};
+ghost use Rattle.std.specs.Prelude.{◌≡◌, ◌≤◌, ◌&&◌, min, IfOk, List, OnOk, false, true};
 ghost use Rattle.line_reading.specs.Windows.{AreWindows, most_margin};
 ghost use Rattle.capture_monitor.specs.Watch.{captured_by};
 ghost use Rattle.audit_notes.specs.Lines.{AuditLine};
@@ -147,16 +147,19 @@ fn write_folded<W: Sink>(
     requires { AreWindows windows }
     ensures { IfOk result (Reports written true report capture.now (captured_by windows capture.now) (W.contents out.old) (W.contents out.new)) }
 {
+    let text = Counted::new(out);
+    let folding = Folding::new(LineWriter {
+        form: written,
+        out: text,
+    });
     let mut lines = Strict {
-        hearer: Folding::new(LineWriter {
-            form: written,
-            out: Counted::new(out),
-        }),
+        hearer: folding,
         remarked: false,
     };
     hear_report(capture, windows, report, &mut lines);
     let remarked = lines.remarked;
-    let text = lines.hearer.finish().out;
+    let writer = lines.hearer.finish();
+    let text = writer.out;
     let done = text.written();
     // No effect at run time. The proof reads what `out` holds from the sink that comes back.
     let _below = text.into_sink();
@@ -195,11 +198,17 @@ fn is_strict(report: CaptureReport) -> bool
     }
 }
 
+fn fails(report: CaptureReport, remarked: bool) -> bool
+    ensures { result ≡ (is_strict report && remarked) }
+{
+    is_strict(report) && remarked
+}
+
 // Fails where a remark makes a report a fault. All of it is written then.
 fn without_remark(report: CaptureReport, remarked: bool) -> Result<(), MonitorFault>
     ensures { OnOk result (is_strict report ≡ true → remarked ≡ false) }
 {
-    if is_strict(report) && remarked {
+    if fails(report, remarked) {
         return Err(MonitorFault::Remarked);
     }
     Ok(())

@@ -1,4 +1,4 @@
-use Rattle.std.proofs.Common.{rules}
+use Rattle.std.proofs.Common.{Ok, Err, rules}
 use Rattle.text_core.proofs.Adding.{text_ended}
 use Rattle.text_core.proofs.Counting.{all_of, front_of}
 use Rattle.capture_monitor.specs.Watch.{captured_by}
@@ -13,7 +13,7 @@ pub returns-in-Ok : goal.returns-in-Ok
 returns-in-Ok g c =
     let xs = captured_by c.args.windows c.args.capture.now in
     let text = lines_text Text (audit_lines c.args.options.timing c.args.capture.now xs) in
-    written_as _ _ _ _ text (audit_text_of c.args.options.timing c.args.capture.now xs) _
+    written_as _ _ _ _ text (audit_text_of c.args.options.timing c.args.capture.now xs) (Ok tt)
     (are_lines c.args.options.timing c.args.capture.now xs)
     (all_of _ _ _ _ text _ _ c.in-Ok.is
     (text_ended g.S.Sink.contents g.S.Sink.is_stuck c.args.out.now _ c.into_sink-below.result.now _ c.into_sink-below.result.ghost_name c.new-audit.result c.hear_audit.new.out text c.written-written.result
@@ -24,7 +24,7 @@ pub returns-in-Err : goal.returns-in-Err
 returns-in-Err g c =
     let xs = captured_by c.args.windows c.args.capture.now in
     let text = lines_text Text (audit_lines c.args.options.timing c.args.capture.now xs) in
-    written_as _ _ _ _ text (audit_text_of c.args.options.timing c.args.capture.now xs) _
+    written_as _ _ _ _ text (audit_text_of c.args.options.timing c.args.capture.now xs) (Err c.in-Err.fault)
     (are_lines c.args.options.timing c.args.capture.now xs)
     (front_of _ _ _ _ text _ _ c.in-Err.is
     (text_ended g.S.Sink.contents g.S.Sink.is_stuck c.args.out.now _ c.into_sink-below.result.now _ c.into_sink-below.result.ghost_name c.new-audit.result c.hear_audit.new.out text c.written-written.result

@@ -14,5 +14,5 @@ use Rattle.audit_core.proofs.readings.watch_capture.Goals as goal
 pub returns : goal.returns
 returns g c =
     let xs = captured_by standard c.args.capture.now in
-    written_as _ _ _ _ (lines_text Text (joined_lines 0 false xs)) (readings_text (file_readings (as_file c.args.capture.now))) _
+    written_as _ _ _ _ (lines_text Text (joined_lines 0 false xs)) (readings_text (file_readings (as_file c.args.capture.now))) c.write_from.result
     (ap (lines_text Text) (none_joined false xs) ∙ readings_lines xs ∙ ap readings_text (standard_readings (line_of_edges c.args.capture.now.edges) c.args.capture.now.end)) c.write_from.ensures
