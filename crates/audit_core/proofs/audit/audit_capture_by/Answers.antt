@@ -24,7 +24,7 @@ pub returns-in-Err : goal.returns-in-Err
 returns-in-Err g c =
     let xs = captured_by c.args.windows c.args.capture.now in
     let text = lines_text Text (audit_lines c.args.options.timing c.args.capture.now xs) in
-    written_as _ _ _ _ text (audit_text_of c.args.options.timing c.args.capture.now xs) (Err c.in-Err.fault)
+    written_as _ _ (g.S.Sink.is_stuck c.args.out.now) _ text (audit_text_of c.args.options.timing c.args.capture.now xs) (Err c.in-Err.fault)
     (are_lines c.args.options.timing c.args.capture.now xs)
     (front_of _ _ _ _ text _ _ c.in-Err.is
     (text_ended g.S.Sink.contents g.S.Sink.is_stuck c.args.out.now _ c.into_sink-below.result.now _ c.into_sink-below.result.ghost_name c.new-audit.result c.hear_audit.new.out text c.written-written.result
