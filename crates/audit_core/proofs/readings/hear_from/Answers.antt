@@ -1,4 +1,4 @@
-use Rattle.std.proofs.Common.{◌+◌, ◌≤◌, List, ℕ, drop, false, get_or, option_map, refl, sym, subst, arith}
+use Rattle.std.proofs.Common.{◌+◌, ◌≤◌, List, drop, false, get_or, option_map, refl, sym, subst, arith}
 use Rattle.line_wave.specs.declared.Edge.{Edge}
 use Rattle.line_wave.specs.Bounds.{latest_instant}
 use Rattle.line_reading.specs.Reports.{listed_as}
