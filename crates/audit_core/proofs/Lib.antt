@@ -2,6 +2,8 @@ pub mod Writing
 pub mod AsLines
 pub mod Times
 pub mod Audited
+pub mod Idle
+pub mod JoinedLines
 pub mod Plain
 pub mod OneLine
 pub mod KeptReadings

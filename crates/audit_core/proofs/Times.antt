@@ -8,7 +8,6 @@ use Rattle.audit_remarks.specs.Attempts.{failure_of, tries_again}
 use Rattle.audit_remarks.specs.Frames.{delivered_frame}
 use Rattle.audit_remarks.specs.Free.{free_before, too_soon}
 use Rattle.audit_remarks.specs.Series.{series_over}
-use Rattle.audit_notes.specs.Lines.{AuditLine}
 use Rattle.audit_notes.specs.declared.note.AuditNote.{AuditNote}
 use Rattle.audit_notes.specs.declared.note.AuditNote.TheVariants as notes
 use Rattle.audit_core.specs.Lines.{answers_lines, noted}

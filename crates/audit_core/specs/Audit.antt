@@ -1,6 +1,6 @@
 -- The audit of a capture: below the line of each reading what there is to remark, in order, and at the end the widths of
 -- all readings (own).
-use Rattle.std.specs.Prelude.{◌≡◌, ℕ, Bool, true, nat_lt, ◌&&◌, if◌then◌else◌, List, [], ◌∷◌, ◌++◌, Option, Some, None, option_map, Result, Ok, Err}
+use Rattle.std.specs.Prelude.{◌≡◌, ℕ, Bool, nat_lt, ◌&&◌, if◌then◌else◌, List, [], ◌∷◌, ◌++◌, map, Option, Some, None, option_map}
 use Rattle.text_core.specs.declared.phys.Phys.{Phys}
 use Rattle.line_wave.specs.declared.Edge.{Edge}
 use Rattle.line_frames.specs.declared.Ending.{Ending}
@@ -15,7 +15,7 @@ use Rattle.audit_widths.specs.Misfits.{drive_within, low_drive}
 use Rattle.audit_widths.specs.Spreads.{no_widths, sum_of, with_slots}
 use Rattle.line_frames.specs.Blocks.{frame_in}
 use Rattle.message_hex.specs.Remark.{remark}
-use Rattle.capture_monitor.specs.Watch.{listed_line, reading_as}
+use Rattle.capture_monitor.specs.Watch.{listed_line, reading_as, readings_text}
 use Rattle.audit_remarks.specs.declared.attempts.Attempts.{Attempts}
 use Rattle.audit_core.specs.declared.auditor.Auditor.{Auditor}
 use Rattle.audit_core.specs.declared.heard.Heard.{Heard}
@@ -30,14 +30,10 @@ use Rattle.audit_remarks.specs.Counts.{no_counts, with_reading}
 use Rattle.audit_remarks.specs.Frames.{delivered_frame, sender}
 use Rattle.audit_remarks.specs.Free.{free_before, is_bad_start, no_previous, previous_with, too_soon}
 use Rattle.audit_core.specs.Lines.{answers_lines, claims_lines, counts_lines, late_lines, misfit_lines, named_lines, noted, timing_lines, widths_lines}
-use Rattle.audit_notes.specs.Lines.{AuditLine, has_remark, lines_text}
+use Rattle.audit_notes.specs.Lines.{AuditLine, lines_text}
 use Rattle.audit_notes.specs.Lines.AuditLine.{Note, Reading}
 use Rattle.audit_notes.specs.declared.note.AuditNote.TheVariants as notes
-use Rattle.record_core.specs.declared.cell.Form.{Form}
 use Rattle.record_core.specs.declared.cell.Form.TheVariants.{Text}
-use Rattle.std.specs.Io.KnownBytes.{Appends}
-use Rattle.text_core.specs.Cut.{CutOff}
-use Rattle.text_core.specs.declared.sink.WriteFault.{WriteFault}
 use Rattle.audit_remarks.specs.Header.{head_read, unfinished}
 use Rattle.audit_remarks.specs.Messages.{missed_receivers, missing_operands}
 use Rattle.audit_remarks.specs.Places.{moved_from, no_places, with_places}
@@ -210,11 +206,10 @@ heard_all timing t (x ∷ xs) = heard_lines timing t x ++ heard_all timing (afte
 abbrev pub audit_lines : Bool → Captured → List Listed → List AuditLine
 audit_lines timing c xs = heard_all timing (first_tape c.edges) xs ++ summary_lines c.end (after_all (first_tape c.edges) xs)
 
--- Their text in a form is written, whole or its front up to a fault; at the end it is known whether the standard has something otherwise.
-abbrev pub WritesAudit : Option (List ℕ) → Option (List ℕ) → Bool → Bool → Form → List AuditLine → Result Bool WriteFault → Type 0
-WritesAudit old new was is form lines (Ok remarked) = Appends old new (lines_text form lines) × (is ≡ was) × (remarked ≡ has_remark lines)
-WritesAudit old new was is form lines (Err fault) = CutOff old new (lines_text form lines) fault × (is ≡ true)
+-- The text of readings is that of their lines.
+abbrev pub ReadingsAreLines : Type 0
+ReadingsAreLines = (xs : List Listed) → lines_text Text (map Reading xs) ≡ readings_text xs
 
--- Their text is that of the audit.
+-- The text of the lines of an audit is that of the audit.
 abbrev pub AuditsAreLines : Type 0
 AuditsAreLines = (timing : Bool) (c : Captured) (xs : List Listed) → lines_text Text (audit_lines timing c xs) ≡ audit_text_of timing c xs

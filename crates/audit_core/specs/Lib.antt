@@ -1,3 +1,4 @@
 pub mod Lines
 pub mod Audit
 pub mod Kept
+pub mod Joined

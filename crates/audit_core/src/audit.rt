@@ -1,15 +1,14 @@
 //! The audit of a capture.
 ghost use Rattle.line_reading.specs.Windows.{AreWindows};
-ghost use Rattle.capture_monitor.specs.Joined.{captured_by};
-ghost use Rattle.audit_core.specs.Audit.{WritesAudit, audit_lines, audit_text, audit_text_of};
+ghost use Rattle.capture_monitor.specs.Watch.{captured_by};
+ghost use Rattle.audit_core.specs.Audit.{audit_lines, audit_text, audit_text_of};
 ghost use Rattle.text_core.specs.Cut.{WritesText};
 
 use crate::whole::WholeAudit;
-use audit_notes::{LineHearer, LineWriter, Strict};
+use audit_notes::LineHearer;
 use capture_core::Capture;
 use capture_monitor::Monitor;
 use line_reading::{STANDARD, Windows};
-use record_core::Form;
 use text_core::{Counted, Sink, WriteFault};
 
 /// What an audit writes.
@@ -40,41 +39,6 @@ pub fn hear_audit<H: LineHearer>(
     let reading = monitor.finish(capture.end());
     auditor.hear(out, &reading, options.timing);
     auditor.summarize(out, capture.end());
-}
-
-/// Writes the audit of a capture as a monitor reads it by these windows, its lines or their objects. Returns whether the standard has
-/// something otherwise.
-///
-/// # Errors
-///
-/// The sink takes no more: then the front of that text was written, as long as the fault reports.
-pub fn write_audit<S: Sink>(
-    capture: &Capture,
-    windows: Windows,
-    form: Form,
-    options: AuditOptions,
-    out: &mut S,
-) -> Result<bool, WriteFault>
-    requires { AreWindows windows }
-    ensures { WritesAudit (S.contents out.old) (S.contents out.new) (S.is_stuck out.old) (S.is_stuck out.new) form (audit_lines options.timing capture.now (captured_by windows capture.now)) result }
-{
-    let mut audit = Strict {
-        hearer: LineWriter {
-            form,
-            out: Counted::new(out),
-        },
-        remarked: false,
-    };
-    hear_audit(capture, windows, options, &mut audit);
-    let remarked = audit.remarked;
-    let text = audit.hearer.out;
-    let written = text.written();
-    // No effect at run time. The proof reads what `out` holds from the sink that comes back.
-    let _below = text.into_sink();
-    match written {
-        Ok(_) => Ok(remarked),
-        Err(fault) => Err(fault),
-    }
 }
 
 /// Writes the readings of a capture, a line each, and below each what a person who knows the standard would remark, in
@@ -113,7 +77,12 @@ pub fn audit_capture_by<S: Sink>(
     requires { AreWindows windows }
     ensures { WritesText (S.contents out.old) (S.contents out.new) (S.is_stuck out.old) (S.is_stuck out.new) (audit_text_of options.timing capture.now (captured_by windows capture.now)) result }
 {
-    match write_audit(capture, windows, Form::Text, options, out) {
+    let mut audit = Counted::new(out);
+    hear_audit(capture, windows, options, &mut audit);
+    let written = audit.written();
+    // No effect at run time. The proof reads what `out` holds from the sink that comes back.
+    let _below = audit.into_sink();
+    match written {
         Ok(_) => Ok(()),
         Err(fault) => Err(fault),
     }

@@ -9,7 +9,7 @@ ghost use Rattle.message_table.specs.Table.{Row};
 ghost use Rattle.message_table.specs.WordSets.{NamedByte, word_of};
 ghost use Rattle.message_text.specs.FrameText.{frame_text};
 ghost use Rattle.message_text.specs.ReadingText.{reading_text};
-ghost use Rattle.audit_core.specs.Audit.{AuditsAreLines};
+ghost use Rattle.audit_core.specs.Audit.{AuditsAreLines, ReadingsAreLines};
 ghost use Rattle.audit_core.specs.Kept.{AuditsKeepReadings, IsPlain, IsRemark, PlainIf, is_remark, shown, without_remarks};
 
 /// Without the lines that begin with a space an audit is what a monitor writes of the capture, to the byte; and those lines
@@ -18,9 +18,10 @@ pub fn audits_keep_readings()
     ensures { AuditsKeepReadings }
 {}
 
-/// The text of an audit is that of its lines.
+/// The text of an audit, and that of readings, is that of its lines.
 pub fn audits_are_lines()
-    ensures { AuditsAreLines }
+    ensures audits { AuditsAreLines }
+    ensures readings { ReadingsAreLines }
 {}
 
 /// Which lines are left out of a text without its remarks.

@@ -7,11 +7,13 @@ mod heard;
 mod laws;
 mod lines;
 mod notes;
+mod readings;
 mod whole;
 
-pub use audit::{AuditOptions, audit_capture, audit_capture_by, hear_audit, write_audit};
+pub use audit::{AuditOptions, audit_capture, audit_capture_by, hear_audit};
 pub use auditor::Auditor;
 pub use laws::{
     audits_are_lines, audits_keep_readings, frames_and_readings_are_one_line, remarks_are_left_out,
     texts_without_a_line_feed, words_without_a_line_feed,
 };
+pub use readings::{hear_from_idle, hear_readings, watch_capture, watch_from_idle};

@@ -1,5 +1,5 @@
 -- What stands for lines one by one is what stands for the groups.
-use Rattle.std.proofs.Common.{◌≡◌, ℕ, suc, ◌+◌, ◌==◌, ◌&&◌, ◌||◌, Bool, true, false, if◌then◌else◌, length, List, [], ◌∷◌, ◌++◌, Some, None, refl, sym, ap, ◌∙◌, append_assoc, append-nil, arith}
+use Rattle.std.proofs.Common.{◌≡◌, ℕ, suc, ◌+◌, ◌==◌, ◌&&◌, ◌||◌, Bool, true, false, if◌then◌else◌, length, List, [], ◌∷◌, ◌++◌, Option, Some, None, refl, sym, ap, ◌∙◌, append_assoc, append-nil, arith}
 use Rattle.std.specs.List.{flat_map, list_any}
 use Rattle.audit_notes.specs.Lines.{AuditLine}
 use Rattle.audit_notes.specs.Folded.{Folding, Run, close_of, closed, counted, folded, folded_after, group_lines, groups_of, is_bad_start, last_of, run_of, with_bad, with_group}
@@ -47,9 +47,6 @@ none_bad [] h = refl
 none_bad (line ∷ lines) h =
     ap (flat_map group_lines) (alone line (groups_of lines) (or_left (is_bad_start line) (list_any is_bad_start lines) h))
     ∙ ap (λ (ls : List AuditLine). line ∷ ls) (none_bad lines (or_right (is_bad_start line) (list_any is_bad_start lines) h))
-
-pub folding : Folding
-folding = record { lines = all_lines; same = none_bad }
 
 -- ---- line by line
 
@@ -124,5 +121,9 @@ written [] = (
 )
 written (next ∷ rest) = written_more next rest (is_bad_start next) refl (written rest)
 
-pub line_by_line : (lines : List AuditLine) → folded_after None lines ≡ folded lines
-line_by_line lines = (written lines).0
+-- what was held when no line is left
+whole : (lines done : List AuditLine) (run : Option Run) → ((rest : List AuditLine) → folded_after None (lines ++ rest) ≡ done ++ folded_after run rest) → done ++ closed run ≡ folded lines
+whole lines done run heard = sym (heard []) ∙ ap (folded_after None) (append-nil lines) ∙ (written lines).0
+
+pub folding : Folding
+folding = record { lines = all_lines; same = none_bad; ended = whole }

@@ -1,4 +1,3 @@
 pub mod Groups
 pub mod Passed
 pub mod ByKind
-pub mod Ended

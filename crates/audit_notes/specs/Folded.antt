@@ -93,7 +93,9 @@ folded_after run (line ∷ lines) =
 pub record Folding : Type 0 where
   pub lines : (lines : List AuditLine) → flat_map (λ group. group) (groups_of lines) ≡ lines
   pub same : (lines : List AuditLine) → list_any is_bad_start lines ≡ false → folded lines ≡ lines
+  pub ended : (lines done : List AuditLine) (run : Option Run) → ((rest : List AuditLine) → folded_after None (lines ++ rest) ≡ done ++ folded_after run rest) → done ++ closed run ≡ folded lines
 
--- The lines of the groups are the lines, and where there is no bad start each stands as it is.
+-- The lines of the groups are the lines, and where there is no bad start each stands as it is; and what stands for lines one by one,
+-- with what is held at the end, is what stands for the groups.
 abbrev pub FoldingLosesNoLine : Type 0
 FoldingLosesNoLine = Folding

@@ -10,6 +10,4 @@ mod kinds;
 #[cfg(test)]
 mod margins;
 #[cfg(test)]
-mod notes;
-#[cfg(test)]
 mod objects;

@@ -4,4 +4,3 @@ pub mod EdgeFile
 pub mod EdgeText
 pub mod Watch
 pub mod Reading
-pub mod Joined

@@ -5,11 +5,13 @@ use Rattle.std.specs.Option.{option_to_list}
 use Rattle.std.specs.Io.KnownBytes.{Appends}
 use Rattle.text_core.specs.declared.sink.WriteFault.{WriteFault}
 use Rattle.line_frames.specs.declared.Reading.{Reading}
+use Rattle.line_reading.specs.declared.times.Windows.{Windows}
 use Rattle.line_reading.specs.Readings.{Listed, readings_of}
 use Rattle.text_core.specs.Cut.{CutOff}
 use Rattle.message_text.specs.ReadingText.{reading_line}
 use Rattle.capture_core.specs.Edges.{Captured, line_of_edges}
 use Rattle.capture_monitor.specs.EdgeFile.{EdgeFile, file_of}
+use Rattle.capture_monitor.specs.ReadBy.{readings_by}
 use Rattle.capture_monitor.specs.declared.edge_file.EdgeFault.{EdgeFault}
 use Rattle.capture_monitor.specs.declared.edge_file.EdgeFault.TheVariants as fault
 use Rattle.capture_monitor.specs.declared.watching.WatchError.{WatchError}
@@ -45,6 +47,10 @@ WritesFile old new was is f (Err fault) = CutOff old new (readings_text (file_re
 -- a capture by itself
 abbrev pub as_file : Captured → EdgeFile
 as_file c = record { edges = c.edges; end = c.end }
+
+-- its readings by windows
+abbrev pub captured_by : Windows → Captured → List Listed
+captured_by windows c = readings_by windows (line_of_edges c.edges) c.end
 
 -- A file without a fault has its readings written, and of another one the first line at fault is told with its word, and nothing
 -- is written. Memory is never wanted.

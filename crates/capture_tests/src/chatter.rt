@@ -1,7 +1,7 @@
 //! A capture whose slow rises chatter.
+use audit_core::watch_capture;
 use capture_core::Capture;
 use capture_forms::{CaptureForm, read_capture};
-use capture_monitor::watch_capture;
 use capture_smooth::smooth_edges;
 use std::process::Abort;
 use text_core::Writes;

@@ -1,8 +1,8 @@
 //! What captures are read as.
 use crate::rows::ROWS;
+use audit_core::watch_from_idle;
 use capture_core::Capture;
 use capture_forms::{CaptureError, CaptureForm, read_capture};
-use capture_monitor::watch_from_idle;
 use capture_pin::lost_lines;
 use capture_smooth::smooth_edges;
 use std::process::Abort;

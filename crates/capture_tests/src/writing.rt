@@ -1,6 +1,6 @@
 //! What is written, over writers that take one byte a call and that fail at each byte.
+use audit_core::watch_capture;
 use capture_forms::{CaptureForm, read_capture};
-use capture_monitor::watch_capture;
 use line_wave::Stretch;
 use std::io::{self, ErrorKind, Write};
 use std::process::Abort;

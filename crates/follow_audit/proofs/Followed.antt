@@ -11,7 +11,7 @@ use Rattle.capture_core.specs.Edges.{Captured, line_of_edges}
 use Rattle.capture_core.specs.Reading.{with_edges}
 use Rattle.capture_core.specs.declared.fault.Cause.{Cause}
 use Rattle.capture_monitor.specs.EdgeFile.{EdgeLinesGoOn}
-use Rattle.capture_monitor.specs.Joined.{captured_by}
+use Rattle.capture_monitor.specs.Watch.{captured_by}
 use Rattle.capture_monitor.specs.ReadBy.{readings_by}
 use Rattle.capture_csv.specs.Sampling.{CsvLinesGoOn}
 use Rattle.capture_pin.specs.Sampling.{PinLinesGoOn}

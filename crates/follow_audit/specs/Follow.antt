@@ -11,7 +11,7 @@ use Rattle.line_reading.specs.Readings.{Listed}
 use Rattle.capture_core.specs.Edges.{Captured, line_of_edges}
 use Rattle.capture_core.specs.Reading.{with_edges}
 use Rattle.capture_core.specs.declared.fault.Cause.{Cause}
-use Rattle.capture_monitor.specs.Joined.{captured_by}
+use Rattle.capture_monitor.specs.Watch.{captured_by}
 use Rattle.audit_core.specs.Audit.{audit_text_of}
 use Rattle.capture_forms.specs.Captures.{capture_in}
 use Rattle.follow_core.specs.Follow.{AreLeft, StopsAtFault, StopsAtLength, StopsAtRead}

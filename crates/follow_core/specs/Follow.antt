@@ -8,8 +8,7 @@ use Rattle.line_reading.specs.declared.times.Windows.{Windows}
 use Rattle.capture_core.specs.Edges.{Captured, line_of_edges}
 use Rattle.capture_core.specs.Reading.{with_edges}
 use Rattle.capture_core.specs.declared.fault.Cause.{Cause}
-use Rattle.capture_monitor.specs.Joined.{captured_by}
-use Rattle.capture_monitor.specs.Watch.{readings_text, reported_text}
+use Rattle.capture_monitor.specs.Watch.{captured_by, readings_text, reported_text}
 use Rattle.capture_forms.specs.Captures.{capture_in}
 use Rattle.live_incoming.specs.Incoming.{IsNext, longest_line}
 use Rattle.live_incoming.specs.declared.incoming.IncomingFault.{IncomingFault}

@@ -30,9 +30,9 @@ use Rattle.cli_words.specs.declared.choice.Listing.{Listing}
 use Rattle.cli_words.specs.declared.choice.Listing.TheVariants.{Trace, Line, Drives, Named}
 use Rattle.cli_words.specs.declared.choice.TestView.{TestView}
 use Rattle.cli_words.specs.declared.choice.TestView.TheVariants.{Report, Traced}
-use Rattle.program_captures.specs.Captures.{IsHeard, IsShown, form_of, name_of, report_of}
+use Rattle.record_core.specs.declared.cell.Form.TheVariants as forms
+use Rattle.program_captures.specs.Captures.{IsShown, form_of, name_of, report_of}
 use Rattle.program_captures.specs.Following.{IsReported}
-use Rattle.program_captures.specs.Objects.{AreCaptureObjects, is_audit}
 use Rattle.program_edids.specs.Edids.{IsMade}
 use Rattle.program_calls.specs.CaptureTests.{IsCaptureTest}
 use Rattle.program_calls.specs.Live.{IsLiveDoneAs}
@@ -92,19 +92,19 @@ abbrev pub report_view : Bool → TestView
 report_view false = Report
 report_view true = Traced
 
--- the lines of which there are objects
+-- the lines of which there are objects; of a capture the objects themselves
 abbrev pub AreLines : Objects → List ℕ → List ℕ → List ℕ → Type 0
 AreLines (of.Trace strict) name input text = (totals : Totals) × IsRunDone input text totals × (strict ≡ true → totals.refused ≡ 0)
 AreLines (of.Room strict) name input text = (totals : Totals) × IsRunDone input text totals × (strict ≡ true → totals.refused ≡ 0)
-AreLines (of.Capture form glitch margin inverted report) name input text = IsHeard (form_of form input) name inverted glitch margin (report_of report (form_of form input)) input text
+AreLines (of.Capture form glitch margin inverted report) name input text = IsShown forms.Json false (form_of form input) name inverted glitch margin (report_of report (form_of form input)) input text
 AreLines (of.Test traced) name input text = IsTestDone (report_view traced) input text
 AreLines (of.CaptureTest form glitch) name input text = IsCaptureTest form name glitch input text
 
--- those of a run's trace, whose objects are written while it runs
+-- those of a run's trace, whose objects are written while it runs, and of a capture, whose lines are never texts
 abbrev pub are_of_run : Objects → Bool
 are_of_run (of.Trace strict) = true
 are_of_run (of.Room strict) = true
-are_of_run (of.Capture form glitch margin inverted report) = false
+are_of_run (of.Capture form glitch margin inverted report) = true
 are_of_run (of.Test traced) = false
 are_of_run (of.CaptureTest form glitch) = false
 
@@ -132,7 +132,7 @@ pub record AreRoomDone (input lines text : List ℕ) : Type 0 where
 abbrev pub AreObjectsOf : Objects → List ℕ → List ℕ → List ℕ → Type 0
 AreObjectsOf (of.Trace strict) input lines text = AreRunDone input lines text
 AreObjectsOf (of.Room strict) input lines text = AreRoomDone input lines text
-AreObjectsOf (of.Capture form glitch margin inverted report) input lines text = AreCaptureObjects (is_audit report) lines text
+AreObjectsOf (of.Capture form glitch margin inverted report) input lines text = text ≡ lines
 AreObjectsOf (of.Test traced) input lines text = AreReportObjects (report_kind lines) (lines_of lines) text
 AreObjectsOf (of.CaptureTest form glitch) input lines text = AreReportObjects kinds.Expectations (lines_of lines) text
 
@@ -152,7 +152,7 @@ IsDone Asm name input text = (frames : List (List ℕ)) × AreTextsOf (lines_of_
 IsDone (Dis meaning form) name input text = (first_fault 1 (lines_of input) ≡ None) × (text ≡ flat_map (dis_text form meaning) (lines_of input))
 IsDone (Lay form) name input text = (pulls : List Stretch) × AreLinesRead (lines_of input) 1 no_notes (Ok pulls) × (text ≡ flat_map (pull_record form) pulls)
 IsDone (Mon mon) name input text =
-    IsShown mon.folded (form_of mon.form input) name mon.inverted mon.glitch mon.margin (report_of mon.report (form_of mon.form input)) input text
+    IsShown forms.Text mon.folded (form_of mon.form input) name mon.inverted mon.glitch mon.margin (report_of mon.report (form_of mon.form input)) input text
 IsDone (Follow form margin report) name input text = IsReported form margin report name input text
 IsDone (Json objects) name input text = (lines : List ℕ) × AreLines objects name input lines × AreObjectsOf objects input lines text
 IsDone (Edid source reading view) name input text = IsMade source reading view input text

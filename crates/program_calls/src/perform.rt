@@ -73,6 +73,7 @@ fn show_capture<W: Sink>(
 {
     let signs = show(
         alloc,
+        Form::Text,
         mon.folded,
         mon.form,
         signal,

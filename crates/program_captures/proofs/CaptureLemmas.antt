@@ -1,19 +1,20 @@
 -- A capture by its edges and its end.
-use Rattle.std.proofs.Common.{◌≡◌, ℕ, zero, suc, Bool, List, [], Option, Some, None, Err, min, refl, ap, subst, append-nil, ◌∙◌}
+use Rattle.std.proofs.Common.{◌≡◌, ℕ, zero, suc, ◌&&◌, Bool, true, false, map, sym, ◌++◌, ◌∷◌, List, [], Option, Some, None, Err, min, refl, ap, subst, append-nil, ◌∙◌}
 use Rattle.line_reading.specs.Windows.{most_margin, standard, wider}
 use Rattle.line_reading.specs.declared.times.Windows.{Windows}
 use Rattle.capture_monitor.proofs.ReadBy.{standard_readings}
-use Rattle.capture_monitor.specs.Joined.{captured_by}
-use Rattle.capture_monitor.specs.Watch.{readings_text}
+use Rattle.capture_monitor.specs.Watch.{captured_by, readings_text}
 use Rattle.follow_core.specs.Follow.{HasFollowed, IsHandedOn, Stops, text_of}
-use Rattle.audit_core.specs.Audit.{audit_text_of}
+use Rattle.audit_core.specs.Audit.{audit_lines, audit_text_of}
+use Rattle.audit_core.proofs.AsLines.{are_lines, readings_lines}
+use Rattle.audit_notes.specs.Lines.AuditLine.{Reading}
+use Rattle.line_reading.specs.Readings.{Listed}
 use Rattle.follow_audit.specs.Follow.{Follows as FollowsAudit}
 use Rattle.follow_audit.specs.Follow.{HasFollowed as HasAudited}
 use Rattle.follow_audit.specs.Follow.{IsHandedOn as IsAuditHandedOn}
 use Rattle.follow_audit.specs.Follow.{text_of as audit_of}
 use Rattle.follow_audit.specs.declared.error.FollowAuditError.{FollowAuditError}
 use Rattle.cli_words.specs.declared.choice.FollowReport.TheVariants as reports
-use Rattle.program_captures.proofs.AuditLemmas.{never}
 use Rattle.program_captures.specs.Following.{FollowsTo, IsCauseOf, StopsAudit, StopsSo, fault_of}
 use Rattle.follow_core.specs.declared.error.FollowError.{FollowError}
 use Rattle.follow_core.specs.declared.lines.LineForm.{LineForm}
@@ -36,6 +37,22 @@ pub readings_are : (margin : ℕ) (windows : Windows) (c : Captured) → windows
 readings_are zero windows c e = let same : windows ≡ standard = e in ap (λ w. captured_by w c) same ∙ standard_readings (line_of_edges c.edges) c.end
 readings_are (suc n) windows c e = ap (λ w. captured_by w c) e
 
+never : false ≡ true → ⊥
+never e = cc
+
+-- what makes no fault is not strict, or has no remark
+pub no_remark : (strict remarked : Bool) → (strict && remarked) ≡ false → strict ≡ true → remarked ≡ false
+no_remark true remarked none is = none
+no_remark false remarked none is = absurd (never is)
+
+-- along two that are the same
+pub along : {A : Type 0} {x y : A} → x ≡ y → (P : A → Type 0) → P x → P y
+along e P one = subst P e one
+
+-- a text that is put, by another name
+pub put_as : (old new : Option (List ℕ)) (x y : List ℕ) → x ≡ y → Appends old new x → Appends old new y
+put_as old new x y e one = subst (λ (text : List ℕ). Appends old new text) e one
+
 -- ---- as its lines come
 
 nothing_more : (known : Option (List ℕ)) → append_known known [] ≡ known
@@ -49,7 +66,11 @@ follows_to form name margin windows known old below pending e none f = record {
   input = f.input;
   all = f.all;
   text = text_of windows f.capture;
-  reported = (f.capture, f.read, ap readings_text (readings_are margin windows f.capture e));
+  reported = (
+    map Reading (readings_at margin f.capture),
+    (f.capture, f.read, (refl, λ strict. absurd (never strict))),
+    ap readings_text (readings_are margin windows f.capture e) ∙ sym (readings_lines (readings_at margin f.capture)),
+  );
   put = subst (λ (new : Option (List ℕ)). Appends old new (text_of windows f.capture)) (ap (append_known below) none ∙ nothing_more below) f.put;
 }
 
@@ -71,7 +92,11 @@ audits_to form name margin timing windows known old below pending e none f = rec
   input = f.input;
   all = f.all;
   text = audit_of timing windows f.capture;
-  reported = (f.capture, f.read, (ap (audit_text_of timing f.capture) (readings_are margin windows f.capture e), λ strict. absurd (never strict)));
+  reported = (
+    audit_lines timing f.capture (readings_at margin f.capture),
+    (f.capture, f.read, (refl, λ strict. absurd (never strict))),
+    ap (audit_text_of timing f.capture) (readings_are margin windows f.capture e) ∙ sym (are_lines timing f.capture (readings_at margin f.capture)),
+  );
   put = subst (λ (new : Option (List ℕ)). Appends old new (audit_of timing windows f.capture)) (ap (append_known below) none ∙ nothing_more below) f.put;
 }
 

@@ -1,4 +1,2 @@
 pub mod ShownLemmas
 pub mod CaptureLemmas
-pub mod AuditLemmas
-pub mod FoldLemmas

@@ -1,9 +1,12 @@
 -- What is written of a capture (own).
-use Rattle.std.specs.Prelude.{◌≡◌, ℕ, zero, suc, min, ◌==◌, Bool, true, false, List, [], Option, Some, None, if◌then◌else◌, Ok}
+use Rattle.std.specs.Prelude.{◌≡◌, ℕ, zero, suc, min, map, ◌==◌, Bool, true, false, List, [], Option, Some, None, if◌then◌else◌, Ok}
 use Rattle.std.specs.Io.KnownBytes.{Appends}
-use Rattle.audit_core.specs.Audit.{audit_text_of}
-use Rattle.audit_lines.specs.Kinds.{has_remark}
-use Rattle.audit_fold.specs.Folded.{folded}
+use Rattle.record_core.specs.declared.cell.Form.{Form}
+use Rattle.audit_notes.specs.Folded.{folded}
+use Rattle.audit_notes.specs.Lines.{AuditLine, has_remark, lines_text}
+use Rattle.audit_notes.specs.Lines.AuditLine.{Reading}
+use Rattle.audit_core.specs.Audit.{audit_lines}
+use Rattle.audit_core.specs.Joined.{IsJoined, joined_lines}
 use Rattle.capture_forms.specs.Captures.{capture_in}
 use Rattle.capture_forms.specs.Forms.{form_of as line_form}
 use Rattle.capture_forms.specs.declared.form.CaptureForm.{CaptureForm}
@@ -11,11 +14,9 @@ use Rattle.capture_forms.specs.declared.form.CaptureForm.TheVariants as forms
 use Rattle.line_reading.specs.Readings.{Listed}
 use Rattle.line_reading.specs.Windows.{most_margin, wider}
 use Rattle.capture_invert.specs.Inverted.{inverted_edges}
-use Rattle.capture_monitor.specs.Joined.{IsJoined, captured_by, joined_text}
-use Rattle.capture_monitor.specs.Watch.{as_file, file_readings, readings_text}
+use Rattle.capture_monitor.specs.Watch.{as_file, captured_by, file_readings}
 use Rattle.capture_core.specs.Edges.{Captured, line_of_edges}
 use Rattle.line_wave.specs.declared.Edge.{Edge}
-use Rattle.text_core.specs.Lines.{lines_of}
 use Rattle.capture_smooth.specs.Smooth.{smooth_edges}
 use Rattle.cli_words.specs.declared.choice.CaptureReport.{CaptureReport}
 use Rattle.cli_words.specs.declared.choice.CaptureReport.TheVariants.{Readings, FromIdle, Audit}
@@ -58,32 +59,43 @@ abbrev pub readings_at : ℕ → Captured → List Listed
 readings_at zero c = file_readings (as_file c)
 readings_at (suc n) c = captured_by (wider (min (suc n) most_margin)) c
 
--- this text is a report of a capture with these readings; that of a strict audit has no remark
-abbrev pub IsReport : CaptureReport → Captured → List Listed → List ℕ → Type 0
-IsReport Readings c xs text = text ≡ readings_text xs
-IsReport FromIdle c xs text = (t : ℕ) × IsJoined (line_of_edges c.edges) c.end t × (text ≡ joined_text t false xs)
-IsReport (Audit timing strict) c xs text = (text ≡ audit_text_of timing c xs) × (strict ≡ true → has_remark (lines_of text) ≡ false)
+-- these are the lines of a report of a capture with these readings
+abbrev pub AreLinesOf : CaptureReport → Captured → List Listed → List AuditLine → Type 0
+AreLinesOf Readings c xs lines = lines ≡ map Reading xs
+AreLinesOf FromIdle c xs lines = (t : ℕ) × IsJoined (line_of_edges c.edges) c.end t × (lines ≡ joined_lines t false xs)
+AreLinesOf (Audit timing strict) c xs lines = lines ≡ audit_lines timing c xs
 
--- it is written, and nothing else
-abbrev pub Reports : CaptureReport → Captured → List Listed → Option (List ℕ) → Option (List ℕ) → Type 0
-Reports report c xs old new = (text : List ℕ) × IsReport report c xs text × Appends old new text
+-- a remark makes it a fault
+abbrev pub is_strict : CaptureReport → Bool
+is_strict (Audit timing strict) = strict
+is_strict report = false
 
--- the report of the capture that an input gives, by its form and the name of its wire, with a margin
-abbrev pub IsHeard : CaptureForm → List ℕ → Bool → ℕ → ℕ → CaptureReport → List ℕ → List ℕ → Type 0
-IsHeard form name inverted glitch margin report input text =
+-- the same of what makes no fault
+abbrev pub AreGood : CaptureReport → Captured → List Listed → List AuditLine → Type 0
+AreGood report c xs lines = AreLinesOf report c xs lines × (is_strict report ≡ true → has_remark lines ≡ false)
+
+-- as they stand, or with bad starts one after another as one line
+abbrev pub folded_if : Bool → List AuditLine → List AuditLine
+folded_if true lines = folded lines
+folded_if false lines = lines
+
+-- the lines of the report of the capture that an input gives, by its form and the name of its wire, with a margin
+abbrev pub AreHeard : CaptureForm → List ℕ → Bool → ℕ → ℕ → CaptureReport → List ℕ → List AuditLine → Type 0
+AreHeard form name inverted glitch margin report input lines =
     (c : Captured)
     × (capture_in form name input ≡ Ok c)
-    × IsReport report (without_short glitch (turned_by inverted c)) (readings_at margin (without_short glitch (turned_by inverted c))) text
+    × AreGood report (without_short glitch (turned_by inverted c)) (readings_at margin (without_short glitch (turned_by inverted c))) lines
 
--- the same as it stands, or with bad starts one after another as one line
-abbrev pub IsShown : Bool → CaptureForm → List ℕ → Bool → ℕ → ℕ → CaptureReport → List ℕ → List ℕ → Type 0
-IsShown false form name inverted glitch margin report input text = IsHeard form name inverted glitch margin report input text
-IsShown true form name inverted glitch margin report input text =
-    (lines : List ℕ) × IsHeard form name inverted glitch margin report input lines × (text ≡ folded (lines_of lines))
+-- this text is that of the lines, or of their objects
+abbrev pub IsShown : Form → Bool → CaptureForm → List ℕ → Bool → ℕ → ℕ → CaptureReport → List ℕ → List ℕ → Type 0
+IsShown written folds form name inverted glitch margin report input text =
+    (lines : List AuditLine) × AreHeard form name inverted glitch margin report input lines × (text ≡ lines_text written (folded_if folds lines))
 
--- is written, and nothing else
-abbrev pub Heard : CaptureForm → List ℕ → Bool → ℕ → ℕ → CaptureReport → List ℕ → Option (List ℕ) → Option (List ℕ) → Type 0
-Heard form name inverted glitch margin report input old new = (text : List ℕ) × IsHeard form name inverted glitch margin report input text × Appends old new text
+-- it is written, and nothing else
+abbrev pub Shown : Form → Bool → CaptureForm → List ℕ → Bool → ℕ → ℕ → CaptureReport → List ℕ → Option (List ℕ) → Option (List ℕ) → Type 0
+Shown written folds form name inverted glitch margin report input old new = (text : List ℕ) × IsShown written folds form name inverted glitch margin report input text × Appends old new text
 
-abbrev pub Shown : Bool → CaptureForm → List ℕ → Bool → ℕ → ℕ → CaptureReport → List ℕ → Option (List ℕ) → Option (List ℕ) → Type 0
-Shown folding form name inverted glitch margin report input old new = (text : List ℕ) × IsShown folding form name inverted glitch margin report input text × Appends old new text
+-- the lines of a report are written in a form, and nothing else, and it is known whether one is a remark
+abbrev pub Reports : Form → Bool → CaptureReport → Captured → List Listed → Option (List ℕ) → Option (List ℕ) → Bool → Type 0
+Reports written folds report c xs old new remarked =
+    (lines : List AuditLine) × AreLinesOf report c xs lines × Appends old new (lines_text written (folded_if folds lines)) × (remarked ≡ has_remark lines)

@@ -13,7 +13,8 @@ use Rattle.follow_audit.specs.declared.error.FollowAuditError.TheVariants as aud
 use Rattle.program_captures.specs.declared.fault.MonitorFault.{MonitorFault}
 use Rattle.program_captures.specs.declared.fault.MonitorFault.TheVariants as faults
 use Rattle.follow_core.specs.declared.lines.LineForm.{LineForm}
-use Rattle.program_captures.specs.Captures.{IsHeard}
+use Rattle.record_core.specs.declared.cell.Form.TheVariants.{Text}
+use Rattle.program_captures.specs.Captures.{IsShown}
 use Rattle.cli_words.specs.declared.choice.FollowReport.{FollowReport}
 use Rattle.cli_words.specs.declared.choice.FollowReport.TheVariants as line_reports
 use Rattle.cli_words.specs.declared.choice.CaptureReport.{CaptureReport}
@@ -26,7 +27,7 @@ report_as (line_reports.Audit timing) = Audit timing false
 
 -- this text is what is reported of the capture that an input gives, as of the whole
 abbrev pub IsReported : LineForm → ℕ → FollowReport → List ℕ → List ℕ → List ℕ → Type 0
-IsReported form margin report name input text = IsHeard (form_as form) name false 0 margin (report_as report) input text
+IsReported form margin report name input text = IsShown Text false (form_as form) name false 0 margin (report_as report) input text
 
 -- that of all that there was to read is written, and nothing else
 pub record FollowsTo (form : LineForm) (name : List ℕ) (margin : ℕ) (report : FollowReport) (known old new : Option (List ℕ)) : Type 0 where

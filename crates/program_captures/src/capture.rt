@@ -1,41 +1,36 @@
 //! What is reported of a capture.
-ghost use Rattle.std.specs.Prelude.{◌≡◌, ◌≤◌, min, OnOk, IfOk, Some, true, false};
-ghost use Rattle.std.specs.Io.KnownBytes.{Appends};
-ghost use Rattle.audit_core.specs.Audit.{audit_text_of};
+ghost use Rattle.std.specs.Prelude.{◌≡◌, ◌≤◌, ◌&&◌, min, IfOk, List, OnOk, false, true};
 ghost use Rattle.line_reading.specs.Windows.{AreWindows, most_margin};
-ghost use Rattle.capture_monitor.specs.Joined.{captured_by};
-ghost use Rattle.audit_lines.specs.Kinds.{has_remark};
-ghost use Rattle.audit_fold.specs.Folded.{folded};
-ghost use Rattle.text_core.specs.Lines.{lines_of};
-ghost use Rattle.program_captures.specs.Captures.{Heard, Reports, Shown, edges_kept, edges_turned, form_of, report_of};
+ghost use Rattle.capture_monitor.specs.Watch.{captured_by};
+ghost use Rattle.audit_notes.specs.Lines.{AuditLine};
+ghost use Rattle.program_captures.specs.Captures.{AreLinesOf, Reports, Shown, edges_kept, edges_turned, form_of, is_strict, report_of};
 
 use crate::fault::MonitorFault;
 use crate::signs::{Signs, has_several, signs_of};
 use arrayvec::ArrayString;
-use audit_core::{AuditOptions, audit_capture_by};
-use audit_fold::fold;
-use audit_lines::has_remark;
+use audit_core::{AuditOptions, hear_audit, hear_from_idle, hear_readings};
+use audit_notes::{Folding, LineHearer, LineWriter, Strict};
 use capture_core::Capture;
 use capture_forms::{CaptureForm, read_capture};
 use capture_invert::invert;
-use capture_monitor::{watch_capture_by, watch_from_idle_by};
 use capture_pin::lost_lines;
 use capture_smooth::smooth_edges;
 use cli_words::CaptureReport;
 use line_reading::{MOST_MARGIN, Windows};
+use record_core::Form;
 use std::alloc::{AllocError, Global};
 use std::fmt::Write;
-use text_core::{Held, Sink, put_all};
+use text_core::{Counted, Sink, WriteFault, put_all};
 
 // How a capture is heard, and what is written of it.
 #[derive(Clone, Copy)]
 struct Hearing<'a> {
-    form: Option<CaptureForm>,
     signal: &'a [u8],
     inverted: bool,
     glitch: u64,
     margin: u64,
-    report: Option<CaptureReport>,
+    written: Form,
+    folds: bool,
 }
 
 /// The form of a capture: what is asked for, or else what its first line reports.
@@ -92,101 +87,131 @@ fn as_read(
     }
 }
 
-// A capture and the windows by which it is read, and the memory for what is held of it.
-#[derive(Clone, Copy)]
-struct Listener<'a> {
-    alloc: Global,
-    capture: &'a Capture,
+// Has the lines of a report of a capture heard, as these windows read it.
+fn hear_report<H: LineHearer>(
+    capture: &Capture,
     windows: Windows,
+    report: CaptureReport,
+    hearer: &mut H,
+)
+    requires { AreWindows windows }
+    ensures { (lines : List AuditLine) × AreLinesOf report capture.now (captured_by windows capture.now) lines × H.hears hearer.old lines hearer.new }
+{
+    match report {
+        CaptureReport::Readings => hear_readings(capture, windows, hearer),
+        CaptureReport::FromIdle => hear_from_idle(capture, windows, hearer),
+        CaptureReport::Audit { timing, .. } => {
+            hear_audit(capture, windows, AuditOptions { timing }, hearer);
+        }
+    }
 }
 
-// Fails where a text has a remark.
-fn without_remark(text: &[u8]) -> Result<(), MonitorFault>
-    ensures { OnOk result (has_remark (lines_of text.now) ≡ false) }
+// Writes the lines of a report in a form. Returns whether one of them is a remark.
+fn write_lines<W: Sink>(
+    capture: &Capture,
+    windows: Windows,
+    report: CaptureReport,
+    written: Form,
+    out: &mut W,
+) -> Result<bool, WriteFault>
+    requires { AreWindows windows }
+    ensures { IfOk result (Reports written false report capture.now (captured_by windows capture.now) (W.contents out.old) (W.contents out.new)) }
 {
-    if has_remark(text) {
+    let mut lines = Strict {
+        hearer: LineWriter {
+            form: written,
+            out: Counted::new(out),
+        },
+        remarked: false,
+    };
+    hear_report(capture, windows, report, &mut lines);
+    let remarked = lines.remarked;
+    let text = lines.hearer.out;
+    let done = text.written();
+    // No effect at run time. The proof reads what `out` holds from the sink that comes back.
+    let _below = text.into_sink();
+    match done {
+        Ok(_) => Ok(remarked),
+        Err(fault) => Err(fault),
+    }
+}
+
+// The same with bad starts one after another as one line.
+fn write_folded<W: Sink>(
+    capture: &Capture,
+    windows: Windows,
+    report: CaptureReport,
+    written: Form,
+    out: &mut W,
+) -> Result<bool, WriteFault>
+    requires { AreWindows windows }
+    ensures { IfOk result (Reports written true report capture.now (captured_by windows capture.now) (W.contents out.old) (W.contents out.new)) }
+{
+    let text = Counted::new(out);
+    let folding = Folding::new(LineWriter {
+        form: written,
+        out: text,
+    });
+    let mut lines = Strict {
+        hearer: folding,
+        remarked: false,
+    };
+    hear_report(capture, windows, report, &mut lines);
+    let remarked = lines.remarked;
+    let writer = lines.hearer.finish();
+    let text = writer.out;
+    let done = text.written();
+    // No effect at run time. The proof reads what `out` holds from the sink that comes back.
+    let _below = text.into_sink();
+    match done {
+        Ok(_) => Ok(remarked),
+        Err(fault) => Err(fault),
+    }
+}
+
+// Writes them as they stand, or folded.
+fn write_either<W: Sink>(
+    capture: &Capture,
+    windows: Windows,
+    report: CaptureReport,
+    written: Form,
+    folds: bool,
+    out: &mut W,
+) -> Result<bool, WriteFault>
+    requires { AreWindows windows }
+    ensures { IfOk result (Reports written folds report capture.now (captured_by windows capture.now) (W.contents out.old) (W.contents out.new)) }
+{
+    if folds {
+        write_folded(capture, windows, report, written, out)
+    } else {
+        write_lines(capture, windows, report, written, out)
+    }
+}
+
+// Whether a remark makes a report a fault.
+fn is_strict(report: CaptureReport) -> bool
+    ensures { result ≡ is_strict report }
+{
+    match report {
+        CaptureReport::Readings | CaptureReport::FromIdle => false,
+        CaptureReport::Audit { strict, .. } => strict,
+    }
+}
+
+fn fails(report: CaptureReport, remarked: bool) -> bool
+    ensures { result ≡ (is_strict report && remarked) }
+{
+    is_strict(report) && remarked
+}
+
+// Fails where a remark makes a report a fault. All of it is written then.
+fn without_remark(report: CaptureReport, remarked: bool) -> Result<(), MonitorFault>
+    ensures { OnOk result (is_strict report ≡ true → remarked ≡ false) }
+{
+    if fails(report, remarked) {
         return Err(MonitorFault::Remarked);
     }
     Ok(())
-}
-
-impl Listener<'_> {
-    fn write_readings<W: Sink>(self, out: &mut W) -> Result<(), MonitorFault>
-        requires { AreWindows self.windows }
-        ensures { OnOk result (Reports CaptureReport.Readings self.entry.capture.now (captured_by self.entry.windows self.entry.capture.now) (W.contents out.old) (W.contents out.new)) }
-    {
-        Ok(watch_capture_by(self.capture, self.windows, out)?)
-    }
-
-    fn write_from_idle<W: Sink>(self, out: &mut W) -> Result<(), MonitorFault>
-        requires { AreWindows self.windows }
-        ensures { OnOk result (Reports CaptureReport.FromIdle self.entry.capture.now (captured_by self.entry.windows self.entry.capture.now) (W.contents out.old) (W.contents out.new)) }
-    {
-        Ok(watch_from_idle_by(self.capture, self.windows, out)?)
-    }
-
-    fn write_audit<W: Sink>(self, timing: bool, out: &mut W) -> Result<(), MonitorFault>
-        requires { AreWindows self.windows }
-        ensures { OnOk result (Reports (CaptureReport.Audit timing false) self.entry.capture.now (captured_by self.entry.windows self.entry.capture.now) (W.contents out.old) (W.contents out.new)) }
-    {
-        Ok(audit_capture_by(self.capture, self.windows, AuditOptions { timing }, out)?)
-    }
-
-    // An audit as it is held: `Err` where memory runs out.
-    fn held_audit(self, timing: bool) -> Result<Held, AllocError>
-        requires { AreWindows self.windows }
-        ensures { IfOk result (λ held. ⟦<Held as Sink>⟧.contents held ≡ Some (audit_text_of timing self.entry.capture.now (captured_by self.entry.windows self.entry.capture.now))) }
-    {
-        let mut held = Held::new(self.alloc);
-        match audit_capture_by(
-            self.capture,
-            self.windows,
-            AuditOptions { timing },
-            &mut held,
-        ) {
-            Ok(()) => Ok(held),
-            Err(_) => Err(AllocError),
-        }
-    }
-
-    // The audit of which a remark is a fault. All of it is written then too.
-    fn write_strict_audit<W: Sink>(self, timing: bool, out: &mut W) -> Result<(), MonitorFault>
-        requires { AreWindows self.windows }
-        ensures { OnOk result (Reports (CaptureReport.Audit timing true) self.entry.capture.now (captured_by self.entry.windows self.entry.capture.now) (W.contents out.old) (W.contents out.new)) }
-    {
-        let held = self.held_audit(timing)?;
-        let text = held.bytes();
-        put_all(out, text)?;
-        without_remark(text)
-    }
-
-    fn write_any_audit<W: Sink>(
-        self,
-        timing: bool,
-        strict: bool,
-        out: &mut W,
-    ) -> Result<(), MonitorFault>
-        requires { AreWindows self.windows }
-        ensures { OnOk result (Reports (CaptureReport.Audit timing strict) self.entry.capture.now (captured_by self.entry.windows self.entry.capture.now) (W.contents out.old) (W.contents out.new)) }
-    {
-        if strict {
-            self.write_strict_audit(timing, out)
-        } else {
-            self.write_audit(timing, out)
-        }
-    }
-
-    // Writes what is asked for of the capture.
-    fn write_report<W: Sink>(self, report: CaptureReport, out: &mut W) -> Result<(), MonitorFault>
-        requires { AreWindows self.windows }
-        ensures { OnOk result (Reports report self.entry.capture.now (captured_by self.entry.windows self.entry.capture.now) (W.contents out.old) (W.contents out.new)) }
-    {
-        match report {
-            CaptureReport::Readings => self.write_readings(out),
-            CaptureReport::FromIdle => self.write_from_idle(out),
-            CaptureReport::Audit { timing, strict } => self.write_any_audit(timing, strict, out),
-        }
-    }
 }
 
 pub(crate) fn within_most(margin: u64) -> u64
@@ -210,68 +235,23 @@ fn listen<W: Sink>(
     input: &[u8],
     out: &mut W,
 ) -> Result<Signs, MonitorFault>
-    ensures { OnOk result (Heard form hearing.entry.signal.now hearing.entry.inverted hearing.entry.glitch hearing.entry.margin report input.now (W.contents out.old) (W.contents out.new)) }
+    ensures { OnOk result (Shown hearing.entry.written hearing.entry.folds form hearing.entry.signal.now hearing.entry.inverted hearing.entry.glitch hearing.entry.margin report input.now (W.contents out.old) (W.contents out.new)) }
 {
     let whole = read_capture(alloc, form, hearing.signal, input)?;
     let kept = as_read(alloc, hearing.inverted, hearing.glitch, whole)?;
     let windows = Windows::wider(within_most(hearing.margin));
-    let listener = Listener {
-        alloc,
-        capture: &kept,
-        windows,
-    };
-    listener.write_report(report, out)?;
+    let remarked = write_either(&kept, windows, report, hearing.written, hearing.folds, out)?;
+    without_remark(report, remarked)?;
     let is_first = hearing.signal.is_empty() && has_several(alloc, form, input);
     Ok(signs_of(&kept, is_first))
 }
 
-// Writes what is asked for of a capture, as it is heard.
-fn monitor<W: Sink>(
-    alloc: Global,
-    hearing: Hearing<'_>,
-    input: &[u8],
-    out: &mut W,
-) -> Result<Signs, MonitorFault>
-    ensures { OnOk result (Heard (form_of hearing.entry.form input.now) hearing.entry.signal.now hearing.entry.inverted hearing.entry.glitch hearing.entry.margin (report_of hearing.entry.report (form_of hearing.entry.form input.now)) input.now (W.contents out.old) (W.contents out.new)) }
-{
-    let form = form_of(hearing.form, input);
-    let report = report_of(hearing.report, form);
-    listen(alloc, form, report, hearing, input, out)
-}
-
-// Writes lines, bad starts one after another as one.
-fn write_folded<W: Sink>(alloc: Global, lines: &[u8], out: &mut W) -> Result<(), MonitorFault>
-    ensures { OnOk result (Appends (W.contents out.old) (W.contents out.new) (folded (lines_of lines.now))) }
-{
-    let text = fold(alloc, lines)?;
-    Ok(put_all(out, &text)?)
-}
-
-// Writes what is asked for of a capture with bad starts one after another as one line. The lines are held until they are all there;
-// those of a strict audit that has a remark are written too.
-#[inline(never)]
-fn show_folded<W: Sink>(
-    alloc: Global,
-    hearing: Hearing<'_>,
-    input: &[u8],
-    out: &mut W,
-) -> Result<Signs, MonitorFault>
-    ensures { OnOk result (Shown true (form_of hearing.entry.form input.now) hearing.entry.signal.now hearing.entry.inverted hearing.entry.glitch hearing.entry.margin (report_of hearing.entry.report (form_of hearing.entry.form input.now)) input.now (W.contents out.old) (W.contents out.new)) }
-{
-    let mut held = Held::new(alloc);
-    let done = monitor(alloc, hearing, input, &mut held);
-    if held.is_full() {
-        return Err(MonitorFault::Memory(AllocError));
-    }
-    write_folded(alloc, held.bytes(), out)?;
-    done
-}
-
-/// Writes what is asked for of a capture: in a form, or in the one that its first line reports, of the wire of a name, or the
-/// first where that is empty, with its levels turned or not, as windows read it that are `margin` wider at either side; as it stands
-/// or with bad starts one after another as one line. Returns what the capture looks like.
+/// Writes what is asked for of a capture, its lines or their objects: in a form, or in the one that its first line reports, of the
+/// wire of a name, or the first where that is empty, with its levels turned or not, as windows read it that are `margin` wider at
+/// either side; as it stands or with bad starts one after another as one line. Returns what the capture looks like.
 pub fn show<W: Sink>(
     alloc: Global,
+    written: Form,
     folds: bool,
     form: Option<CaptureForm>,
     signal: &[u8],
@@ -282,21 +262,19 @@ pub fn show<W: Sink>(
     input: &[u8],
     out: &mut W,
 ) -> Result<Signs, MonitorFault>
-    ensures { OnOk result (Shown folds (form_of form input.now) signal.now inverted glitch margin (report_of report (form_of form input.now)) input.now (W.contents out.old) (W.contents out.new)) }
+    ensures { OnOk result (Shown written folds (form_of form input.now) signal.now inverted glitch margin (report_of report (form_of form input.now)) input.now (W.contents out.old) (W.contents out.new)) }
 {
     let hearing = Hearing {
-        form,
         signal,
         inverted,
         glitch,
         margin,
-        report,
+        written,
+        folds,
     };
-    if folds {
-        show_folded(alloc, hearing, input, out)
-    } else {
-        monitor(alloc, hearing, input, out)
-    }
+    let form = form_of(form, input);
+    let report = report_of(report, form);
+    listen(alloc, form, report, hearing, input, out)
 }
 
 // The line that names an event before which others were lost.

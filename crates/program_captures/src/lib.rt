@@ -4,11 +4,9 @@
 mod capture;
 mod fault;
 mod following;
-mod objects;
 mod signs;
 
 pub use capture::{form_of, name_lost, show, without_short};
 pub use fault::MonitorFault;
 pub use following::follow_capture;
-pub use objects::write_capture_objects;
 pub use signs::{Signs, write_hints};

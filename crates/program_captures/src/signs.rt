@@ -1,12 +1,14 @@
 //! What a capture looks like where it may have to be read otherwise, and what is said of it then.
-ghost use Rattle.std.specs.Prelude.{◌≤◌, None, false};
+ghost use Rattle.std.specs.Prelude.{◌≤◌};
 ghost use Rattle.line_reading.specs.Windows.{most_margin};
 
 use arrayvec::ArrayString;
+use audit_core::hear_readings;
+use audit_notes::{AuditNote, LineHearer, ReadingGroup};
 use capture_core::Capture;
 use capture_forms::CaptureForm;
-use capture_monitor::watch_capture_by;
 use json_trace::{after_byte, after_word, word};
+use line_frames::{Ending, Reading};
 use line_reading::{STANDARD, Windows};
 use line_wave::Edge;
 use std::alloc::{AllocError, Global};
@@ -43,28 +45,30 @@ pub struct Signs {
     is_other: bool,
 }
 
-/// A sink that counts complete readings, of which each is one `put`, and keeps nothing.
+/// What hears readings and counts the complete ones.
 #[derive(Drop)]
 struct Complete {
     count: u64,
 }
 
-impl Sink for Complete {
-    ghost contents = { λ counted. None };
+impl LineHearer for Complete {
+    ghost hears = { λ old lines new. Unit {0} };
 
-    ghost is_stuck = { λ counted. false };
-
-    fn put(&mut self, bytes: &[u8]) -> usize {
-        if is_complete(bytes) {
+    fn reading(&mut self, reading: &Reading) {
+        if matches!(reading.ending, Ending::Complete) {
             self.count = self.count.saturating_add(1);
         }
-        bytes.len()
     }
-}
 
-// Whether the line of a reading says that it is complete.
-fn is_complete(line: &[u8]) -> bool {
-    word(after_word(after_word(line))) == b"complete".as_slice()
+    fn group(&mut self, _group: ReadingGroup) {}
+
+    fn word(&mut self, _word: &str) {}
+
+    fn note(&mut self, _note: AuditNote) {}
+
+    ghost nothing = { λ a. tt };
+
+    ghost then = { λ a b c xs ys first second. tt };
 }
 
 // How many readings of a capture are complete with a margin.
@@ -72,7 +76,7 @@ fn complete_by(capture: &Capture, margin: u64) -> u64
     requires { margin ≤ most_margin }
 {
     let mut complete = Complete { count: 0 };
-    let _ = watch_capture_by(capture, Windows::wider(margin), &mut complete);
+    hear_readings(capture, Windows::wider(margin), &mut complete);
     complete.count
 }
 

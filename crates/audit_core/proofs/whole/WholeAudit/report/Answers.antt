@@ -1,4 +1,4 @@
-use Rattle.std.proofs.Common.{◌≡◌, ◌++◌, ◌∷◌, [], List, ap, subst, ◌∙◌}
+use Rattle.std.proofs.Common.{◌≡◌, ◌∷◌, List, ap, subst, ◌∙◌}
 use Rattle.line_wave.specs.declared.Edge.{Edge}
 use Rattle.line_reading.specs.Reports.{listed_as}
 use Rattle.audit_notes.specs.Lines.AuditLine.{Reading}

@@ -1,5 +1,0 @@
-use Rattle.audit_fold.proofs.Groups.{folding}
-use Rattle.audit_fold.proofs.laws.folding_loses_no_line.Goals as goal
-
-pub returns : goal.returns
-returns c = folding
