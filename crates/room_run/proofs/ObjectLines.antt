@@ -20,7 +20,6 @@ use Rattle.room_trace.specs.PortText.{name_in, port_cells, port_text, port_texts
 use Rattle.room_trace.specs.Records.{end_cells, end_text, event_cells, event_text as event_record, round_cells, round_text, state_cells, state_text}
 use Rattle.room_trace.specs.Room.{Room, event_object, heads_in, line_at, room_if, said_cells}
 use Rattle.room_trace.proofs.Records.{port_same, same_lines}
-use Rattle.room_trace.proofs.Said.{said_same}
 use Rattle.room_run.specs.declared.run.Reporting.TheVariants.{Objects, Trace}
 use Rattle.room_run.specs.declared.run.Totals.{Totals}
 use Rattle.room_run.specs.declared.run.Turn.{Turn}
@@ -51,6 +50,11 @@ each f g (x ∷ xs) h = two (f x) (flat_map f xs) (g x) (flat_map g xs) (h x) (e
 
 round_of : (devices : List State) (o : Outcome) → AreOfRecords (round_text Text devices o) (round_text Json devices o)
 round_of devices o = one (codes "round") (round_text Text devices o) (round_cells devices o) (same_lines.round devices o)
+
+-- what its line of the script says stands in its object alone
+said_same : (at line : ℕ) (refused : Option EventError) (said : List ℕ) → line_of (event_cells at line refused ++ said_cells said) ≡ event_record Text at line refused
+said_same at line None said = same_lines.event at line None
+said_same at line (Some error) said = same_lines.event at line (Some error)
 
 event_of : (room : Option Room) (at line : ℕ) (refused : Option EventError) → AreOfRecords (event_record Text at line refused) (event_object room at line refused)
 event_of None at line refused = one (codes "event") (event_record Text at line refused) (event_cells at line refused) (same_lines.event at line refused)

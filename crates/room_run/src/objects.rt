@@ -40,6 +40,20 @@ fn room_if<'a>(with_room: bool, topology: &'a [u8], script: &'a [u8]) -> Option<
     }
 }
 
+// The same with the room where it is asked for.
+#[inline(never)]
+fn objects_in<'a>(
+    alloc: Global,
+    edid: Option<Box<Edid>>,
+    with_room: bool,
+    topology: &'a [u8],
+    script: &'a [u8],
+) -> Result<Box<Reporting<'a>>, AllocError>
+    ensures { IfOk result (λ reporting. reporting.value ≡ Objects (option_map (λ b. b.value) edid) (room_if with_room topology.now script.now)) }
+{
+    objects_with(alloc, edid, room_if(with_room, topology, script))
+}
+
 /// Runs a script on a topology, and writes while it runs an object of JSON for each line of the trace, a line each. With the room
 /// stand before them the objects of the topology's lines and of the script's pulses, pulls and levels of the pin, and an event has in
 /// its object the verb, the device and the text of its line of the script.
@@ -65,7 +79,7 @@ pub fn emulate_objects<S: Sink>(
     let plan = parse_topology(alloc, topology)?;
     let course = parse_script(alloc, &plan, script)?;
     let edid = root_on_heap(alloc, &plan.edid)?;
-    let Ok(reporting) = objects_with(alloc, edid, room_if(with_room, topology, script)) else {
+    let Ok(reporting) = objects_in(alloc, edid, with_room, topology, script) else {
         return Err(EmulateError::Memory);
     };
     let Ok(mut net) = started_net(alloc, plan.tree, &course) else {

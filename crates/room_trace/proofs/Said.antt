@@ -1,15 +1,9 @@
 -- The script as far as the events of a run have come, and the objects of a text's lines.
-use Rattle.std.proofs.Common.{◌≡◌, ℕ, ◌+◌, ◌-◌, ◌≤◌, List, [], ◌∷◌, ◌++◌, append-nil, append_assoc, drop, drop-drop, refl, sym, ap, subst, ◌∙◌, arith, Option, None, Some}
+use Rattle.std.proofs.Common.{◌≡◌, ℕ, ◌+◌, ◌-◌, ◌≤◌, List, [], ◌∷◌, ◌++◌, append-nil, append_assoc, drop, drop-drop, refl, sym, ap, subst, ◌∙◌, arith}
 use Rattle.std.specs.List.{flat_map}
 use Rattle.text_core.specs.Adds.{Adds, Tally}
 use Rattle.text_core.specs.Lines.{lines_of}
 use Rattle.text_core.proofs.Adding.{nothing, then}
-use Rattle.record_core.specs.Records.{line_of}
-use Rattle.room_event.specs.declared.event.EventError.{EventError}
-use Rattle.room_trace.specs.Records.{event_cells}
-use Rattle.room_trace.specs.Room.{said_cells}
-use Rattle.room_trace.specs.TraceText.{event_line}
-use Rattle.room_trace.proofs.Records.{same_lines}
 
 -- ---- lines that are passed
 
@@ -39,10 +33,3 @@ heads_more f text rest after line a b c k split more = record {
 
 pub heads_all : (f : List ℕ → List ℕ) (text rest : List ℕ) (a b : Tally) → Heads f text rest a b → lines_of rest ≡ [] → Adds a b (flat_map f (lines_of text))
 heads_all f text rest a b k over = subst (Adds a b) (sym (k.parts ∙ ap (λ (ls : List (List ℕ)). k.done ++ flat_map f ls) over ∙ append-nil k.done)) k.added
-
--- ---- an event in a room
-
--- what its line of the script says stands in its object alone
-pub said_same : (at line : ℕ) (refused : Option EventError) (said : List ℕ) → line_of (event_cells at line refused ++ said_cells said) ≡ event_line at line refused
-said_same at line None said = same_lines.event at line None
-said_same at line (Some error) said = same_lines.event at line (Some error)

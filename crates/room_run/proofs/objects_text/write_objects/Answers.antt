@@ -1,6 +1,7 @@
 use Rattle.std.proofs.Common.{rules, ◌≡◌, ◌∙◌, ◌++◌, false, List, Option, ap, subst}
 use Rattle.std.specs.List.{flat_map}
 use Rattle.text_core.specs.Adds.{Adds}
+use Rattle.edid_core.specs.declared.edid.Edid.{Edid}
 use Rattle.edid_tree.specs.Node.{Node}
 use Rattle.device_core.specs.State.{State}
 use Rattle.room_net.specs.State.{NetState}
@@ -26,7 +27,7 @@ returns g c =
     (then _ _ _ _ _ c.add_room.ensures c.add_new_ports.ensures) in
     let heard : Adds c.add_new_ports.new.out c.run_turns-totals.new.reporter.text (flat_map (objects_of edid room) run.happened) =
     subst (λ (r : Option Room). Adds c.add_new_ports.new.out c.run_turns-totals.new.reporter.text (flat_map (objects_of edid r) run.happened)) c.room_again.ensures
-    (heard_text (λ r. r.text) (λ r. (r.passed.edid.now, r.room)) (λ k. objects_of k.0 k.1) run.happened _ _ run.heard) in
+    (heard_text (λ r. r.text) (λ r. (r.passed.edid.now, r.room)) (λ (k : Option Edid × Option Room). objects_of k.0 k.1) run.happened _ _ run.heard) in
     let devices : c.devices.result.now ≡ run.last.net.devices = c.devices.ensures ∙ ap (λ (s : NetState). s.devices) run.net_is in
     let after : Adds c.run_turns-totals.new.reporter.text c.add_last_lines.new.out (end_reported (Objects edid room) c.args.end run.last.net) =
     subst (λ (ds : List State). Adds c.run_turns-totals.new.reporter.text c.add_last_lines.new.out (flat_map (state_text Json) ds ++ end_text Json c.args.end)) devices c.add_last_lines.ensures in
