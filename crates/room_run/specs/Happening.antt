@@ -80,6 +80,10 @@ abbrev pub objects_of : Option Edid → Option Room → Happening → List ℕ
 objects_of edid room (OfEvent at e before) = event_objects edid room at e before
 objects_of edid room (OfRound begin before o) = round_text Json before.devices o
 
+-- what stays of a reporter that adds them: the EDID that ports pass on, and the room
+abbrev pub given : Option Edid → Option Room → Option Edid × Option Room
+given edid room = (edid, room)
+
 -- ---- the line in a format: of an event nothing, of a round its line
 
 abbrev pub line_of_turn : CaptureForm → Happening → List ℕ

@@ -20,7 +20,7 @@ fn objects_with<'a>(
     edid: Option<Box<Edid>>,
     room: Option<RoomTexts<'a>>,
 ) -> Result<Box<Reporting<'a>>, AllocError>
-    ensures { IfOk result (λ reporting. reporting.value ≡ Objects (option_map (λ b. b.value) edid) room) }
+    ensures { IfOk result (λ reporting. reporting.value ≡ Objects (option_map (λ b. b.value) edid) room.entry) }
 {
     let reporting = match edid {
         None => Box::new(alloc, Reporting::Objects(None, room))?,

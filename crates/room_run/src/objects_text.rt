@@ -33,9 +33,9 @@ struct ObjectsText<'a, 'e, 'r, S: Sink> {
 impl<'a, 'e, 'r, S: Sink> Reporter for ObjectsText<'a, 'e, 'r, S> {
     ghost use Rattle.std.specs.Prelude.{◌≡◌, not};
     ghost use Rattle.text_core.specs.Adds.{Adds};
-    ghost use Rattle.room_run.specs.Happening.{objects_of};
+    ghost use Rattle.room_run.specs.Happening.{given, objects_of};
 
-    ghost hears = { λ r x s. Adds r.text s.text (objects_of r.passed.edid.now r.room x) × ((s.passed.edid.now, s.room) ≡ (r.passed.edid.now, r.room)) };
+    ghost hears = { λ r x s. Adds r.text s.text (objects_of r.passed.edid.now r.room x) × (given s.passed.edid.now s.room ≡ given r.passed.edid.now r.room) };
 
     ghost goes_on = { λ r. not r.text.failed };
 

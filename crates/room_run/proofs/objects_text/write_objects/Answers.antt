@@ -12,7 +12,7 @@ use Rattle.room_trace.specs.Room.{Room, heads_in}
 use Rattle.text_core.proofs.Adding.{then}
 use Rattle.room_run.specs.declared.run.Reporting.TheVariants.{Objects}
 use Rattle.room_run.specs.Run.{start, start_reported, end_reported, IsRunText}
-use Rattle.room_run.specs.Happening.{objects_of}
+use Rattle.room_run.specs.Happening.{given, objects_of}
 use Rattle.room_run.proofs.Whole.{heard_text, run_ended, run_told, objects_by}
 use Rattle.room_run.proofs.objects_text.write_objects.Goals as goal
 
@@ -27,7 +27,7 @@ returns g c =
     (then _ _ _ _ _ c.add_room.ensures c.add_new_ports.ensures) in
     let heard : Adds c.add_new_ports.new.out c.run_turns-totals.new.reporter.text (flat_map (objects_of edid room) run.happened) =
     subst (λ (r : Option Room). Adds c.add_new_ports.new.out c.run_turns-totals.new.reporter.text (flat_map (objects_of edid r) run.happened)) c.room_again.ensures
-    (heard_text (λ r. r.text) (λ r. (r.passed.edid.now, r.room)) (λ (k : Option Edid × Option Room). objects_of k.0 k.1) run.happened _ _ run.heard) in
+    (heard_text (λ r. r.text) (λ r. given r.passed.edid.now r.room) (λ (k : Option Edid × Option Room). objects_of k.0 k.1) run.happened _ _ run.heard) in
     let devices : c.devices.result.now ≡ run.last.net.devices = c.devices.ensures ∙ ap (λ (s : NetState). s.devices) run.net_is in
     let after : Adds c.run_turns-totals.new.reporter.text c.add_last_lines.new.out (end_reported (Objects edid room) c.args.end run.last.net) =
     subst (λ (ds : List State). Adds c.run_turns-totals.new.reporter.text c.add_last_lines.new.out (flat_map (state_text Json) ds ++ end_text Json c.args.end)) devices c.add_last_lines.ensures in
