@@ -1,8 +1,6 @@
 //! Laws of checks.
-ghost use Rattle.std.specs.Prelude.{◌≡◌, ◌++◌, ◌∷◌, ℕ, List, []};
 ghost use Rattle.expect_run.specs.Check.{TalliesCountVerdicts};
 ghost use Rattle.expect_run.specs.Cuts.{CutsAreRead};
-ghost use Rattle.expect_run.specs.Sieve.{IsClosed};
 
 use room_run::{texts_have_one_held_trace, texts_have_one_trace};
 
@@ -19,9 +17,4 @@ pub fn tallies_count_verdicts()
 /// pulls, and that end, which lets the pin go.
 pub fn cut_scripts_are_read()
     ensures { CutsAreRead }
-{}
-
-/// What comes after a text that ends with a line feed begins a line of its own.
-pub fn ended_lines_are_closed()
-    ensures { (front text xs : List ℕ) → text ≡ xs ++ 10 ∷ [] → IsClosed (front ++ text) }
 {}

@@ -1,8 +1,11 @@
-//! A room, its script and its trace through the call that the program makes.
+//! The objects of a room, and those of its events.
 use crate::objects::holds;
-use json_room::write_room_objects;
+use device_core::SubmitError;
+use record_core::Form;
+use room_event::EventError;
+use room_trace::{RoomTexts, add_end, add_event_in, add_room};
 use std::process::Abort;
-use text_core::Writes;
+use text_core::{Counted, Writes};
 
 const TOPOLOGY: &str = "\
 # a room
@@ -24,15 +27,15 @@ pin 30000 0
 end 5000
 ";
 
-/// Lines of its trace: an event names its line of the script, also one above that of the event before, or one that is not there.
-const TRACE: &str = "\
-1000 event 1 ok
-3000 event 5 refused no-address
-4000 event 6 ok
-4500 event 1 ok
-4600 event 9 ok
-5000 end
-";
+/// Events, with when they were applied, their lines of the script, also one above that of the event before, or one that is not there,
+/// and whether they were refused.
+const EVENTS: &[(u64, u64, bool)] = &[
+    (1000, 1, false),
+    (3000, 5, true),
+    (4000, 6, false),
+    (4500, 1, false),
+    (4600, 9, false),
+];
 
 const OBJECTS: &str = "\
 {'line':'device tv tv 4','type':'device','device':'tv','kind':'tv','ports':4}
@@ -53,13 +56,20 @@ const OBJECTS: &str = "\
 #[test]
 fn events_have_their_lines(rt: HostRuntime) {
     let mut out = Vec::new(rt.alloc());
-    write_room_objects(
-        TOPOLOGY.as_bytes(),
-        SCRIPT.as_bytes(),
-        TRACE.as_bytes(),
-        &mut Writes::new(&mut out),
-    )
-    .expect(&rt, "room");
+    let mut sink = Writes::new(&mut out);
+    let mut objects = Counted::new(&mut sink);
+    let mut room = Some(RoomTexts::new(TOPOLOGY.as_bytes(), SCRIPT.as_bytes()));
+    add_room(&mut objects, &room);
+    for (at, line, is_refused) in EVENTS {
+        let refused = if *is_refused {
+            Some(EventError::Send(SubmitError::NoAddress))
+        } else {
+            None
+        };
+        add_event_in(&mut objects, &mut room, *at, *line, refused);
+    }
+    add_end(&mut objects, Form::Json, 5000);
+    holds(&rt, objects.written().is_ok(), "all of it");
     let text = String::from_utf8(out).expect(&rt, "a text");
     let text = text.replace(rt.alloc(), "\"", "'").expect(&rt, "a text");
     holds(&rt, text.as_str() == OBJECTS, text.as_str());

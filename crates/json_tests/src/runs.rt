@@ -1,8 +1,6 @@
 //! The objects of a run, which are written while it runs, beside those of its trace once it is there.
 use crate::objects::{Narrow, holds};
-use json_room::{RoomLines, write_room_objects};
-use json_run::emulate_objects as emulate_room;
-use json_trace::{LineObjects, write_objects};
+use json_trace::write_objects;
 use room_run::Totals;
 use room_run::emulate::{EmulateError, emulate};
 use room_run::objects::emulate_objects;
@@ -43,8 +41,13 @@ fn fault_of(ran: Result<Totals, EmulateError>) -> Option<u128> {
     }
 }
 
-/// What is written of a run while it goes on, by a writer with this much room, and the count of its fault.
-fn written(rt: &(impl Abort + AllocGlobal), script: &str, room: usize) -> (Vec<u8>, Option<u128>) {
+/// What is written of a run while it goes on, with its room or without, by a writer for so many bytes, and the count of its fault.
+fn written(
+    rt: &(impl Abort + AllocGlobal),
+    script: &str,
+    with_room: bool,
+    room: usize,
+) -> (Vec<u8>, Option<u128>) {
     let mut out = Narrow {
         bytes: Vec::new(rt.alloc()),
         room,
@@ -53,27 +56,7 @@ fn written(rt: &(impl Abort + AllocGlobal), script: &str, room: usize) -> (Vec<u
         rt.alloc(),
         TOPOLOGY.as_bytes(),
         script.as_bytes(),
-        &mut Writes::new(&mut out),
-    );
-    (out.bytes, fault_of(ran))
-}
-
-/// The same with its room.
-fn written_with<L: LineObjects + Drop>(
-    rt: &(impl Abort + AllocGlobal),
-    script: &str,
-    lines: L,
-    room: usize,
-) -> (Vec<u8>, Option<u128>) {
-    let mut out = Narrow {
-        bytes: Vec::new(rt.alloc()),
-        room,
-    };
-    let ran = emulate_room(
-        rt.alloc(),
-        TOPOLOGY.as_bytes(),
-        script.as_bytes(),
-        lines,
+        with_room,
         &mut Writes::new(&mut out),
     );
     (out.bytes, fault_of(ran))
@@ -101,22 +84,58 @@ fn objects_of_a_run(rt: HostRuntime) {
         want.len().saturating_sub(1),
         want.len(),
     ] {
-        let (out, fault) = written(&rt, SCRIPT, room);
+        let (out, fault) = written(&rt, SCRIPT, false, room);
         holds(&rt, is_front(&want, room, &out, fault), "objects of a run");
     }
 }
 
+/// The objects of the room, by hand.
+const ROOM: &str = "\
+{'line':'device tv tv 4','type':'device','device':'tv','kind':'tv','ports':4}
+{'line':'device p1 player 0','type':'device','device':'p1','kind':'player','ports':0}
+{'line':'plug p1 tv 1','type':'plug','device':'p1','parent':'tv','port':1}
+{'line':'pulse 1200000 400','type':'pulse','at':1200000,'width':400}
+";
+
+/// How the object of each event ends, and what stands there with the room.
+const ENDS: &[(&str, &str)] = &[
+    (
+        "'script_line':1,'verdict':'ok','cause':null}",
+        "'script_line':1,'verdict':'ok','cause':null,'verb':'press','device':'p1','text':'press p1 play'}",
+    ),
+    (
+        "'script_line':3,'verdict':'refused','cause':'not-loose'}",
+        "'script_line':3,'verdict':'refused','cause':'not-loose','verb':'plug','device':'p1','text':'plug p1 tv 2'}",
+    ),
+    (
+        "'script_line':4,'verdict':'ok','cause':null}",
+        "'script_line':4,'verdict':'ok','cause':null,'verb':'send','device':'p1','text':'send p1 4>0 image-view-on'}",
+    ),
+];
+
+/// The objects of a trace with those of its room: as those of the trace alone, but for the ends of events.
+fn with_its_room(rt: &(impl Abort + AllocGlobal), trace: &[u8]) -> String {
+    let mut objects = Vec::new(rt.alloc());
+    write_objects(trace, &mut Writes::new(&mut objects)).expect(rt, "room");
+    let mut text = String::from_utf8(objects).expect(rt, "a text");
+    for (end, with_room) in ENDS {
+        let end = end.replace(rt.alloc(), "'", "\"").expect(rt, "a text");
+        let with_room = with_room
+            .replace(rt.alloc(), "'", "\"")
+            .expect(rt, "a text");
+        holds(rt, text.contains(end.as_str()), end.as_str());
+        text = text
+            .replace(rt.alloc(), end.as_str(), with_room.as_str())
+            .expect(rt, "a text");
+    }
+    let room = ROOM.replace(rt.alloc(), "'", "\"").expect(rt, "a text");
+    format!(in rt.alloc(); "{room}{text}").expect(rt, "a text")
+}
+
 #[test]
 fn objects_of_a_run_and_its_room(rt: HostRuntime) {
-    let trace = trace(&rt);
-    let mut want = Vec::new(rt.alloc());
-    write_room_objects(
-        TOPOLOGY.as_bytes(),
-        SCRIPT.as_bytes(),
-        &trace,
-        &mut Writes::new(&mut want),
-    )
-    .expect(&rt, "room");
+    let want = with_its_room(&rt, &trace(&rt));
+    let want = want.as_bytes();
     for room in [
         0,
         1,
@@ -125,18 +144,16 @@ fn objects_of_a_run_and_its_room(rt: HostRuntime) {
         want.len().saturating_sub(1),
         want.len(),
     ] {
-        let lines = RoomLines::new(TOPOLOGY.as_bytes(), SCRIPT.as_bytes());
-        let (out, fault) = written_with(&rt, SCRIPT, lines, room);
-        holds(&rt, is_front(&want, room, &out, fault), "objects of a room");
+        let (out, fault) = written(&rt, SCRIPT, true, room);
+        holds(&rt, is_front(want, room, &out, fault), "objects of a room");
     }
 }
 
 #[test]
 fn a_refused_script_writes_nothing(rt: HostRuntime) {
     let script = "at 5 frob tv\nend 10\n";
-    let lines = RoomLines::new(TOPOLOGY.as_bytes(), script.as_bytes());
-    let (out, fault) = written_with(&rt, script, lines, 1000);
-    holds(&rt, out.is_empty() && fault.is_none(), "nothing");
-    let (out, fault) = written(&rt, script, 1000);
-    holds(&rt, out.is_empty() && fault.is_none(), "nothing");
+    for with_room in [true, false] {
+        let (out, fault) = written(&rt, script, with_room, 1000);
+        holds(&rt, out.is_empty() && fault.is_none(), "nothing");
+    }
 }

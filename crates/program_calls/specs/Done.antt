@@ -1,5 +1,5 @@
 -- What the program does for a choice, an input and what it writes (own).
-use Rattle.std.specs.Prelude.{◌≡◌, ℕ, Bool, true, false, if◌then◌else◌, ◌⊎◌, List, [], ◌∷◌, Option, None, Some, Ok, MatchOption, codes}
+use Rattle.std.specs.Prelude.{◌≡◌, ℕ, Bool, true, false, if◌then◌else◌, ◌⊎◌, List, [], ◌∷◌, ◌++◌, Option, None, Some, Ok, MatchOption, codes}
 use Rattle.std.specs.List.{flat_map}
 use Rattle.std.specs.Io.KnownBytes.{Appends}
 use Rattle.message_hex.specs.Lines.{first_fault}
@@ -11,9 +11,9 @@ use Rattle.capture_forms.specs.declared.form.CaptureForm.{CaptureForm}
 use Rattle.message_meaning.specs.Records.{dis_text}
 use Rattle.json_report.specs.Object.{AreReportObjects}
 use Rattle.json_report.specs.declared.object.ReportKind.TheVariants as kinds
-use Rattle.json_room.specs.Room.{AreRoomObjects}
 use Rattle.room_run.specs.Emulate.{AreObjectsOf as AreRunObjects, IsLineOf, IsTraceOf}
 use Rattle.room_run.specs.Objects.{AreOfRecords}
+use Rattle.room_trace.specs.Room.{heads_in, room_if}
 use Rattle.room_run.specs.declared.run.Totals.{Totals}
 use Rattle.room_steps.specs.StepRun.{AreStepsOf}
 use Rattle.message_text.specs.FrameLines.{AreTextsOf, hex_line as frame_line, lines_of_frames}
@@ -112,26 +112,22 @@ are_of_run (of.CaptureTest form glitch) = false
 abbrev pub WritesLines : Objects → List ℕ → List ℕ → Option (List ℕ) → Option (List ℕ) → Type 0
 WritesLines objects name input old new = (text : List ℕ) × AreLines objects name input text × Appends old new text
 
--- a text is the objects of the run that the input spells, and its records are those of these lines of its trace
-pub record AreRunDone (input lines text : List ℕ) : Type 0 where
+-- a text is the objects of the run that the input spells, with those of the room before them or without, and their records are those of
+-- these lines of its trace
+pub record AreRunDone (with_room : Bool) (input lines text : List ℕ) : Type 0 where
   pub topology : List ℕ
   pub script : List ℕ
   pub totals : Totals
   pub parts : IsRunInput input topology script
-  pub objects : AreRunObjects topology script text totals
-  pub records : AreOfRecords lines text
-
--- a text is the objects of the room that the input spells, and of these lines of its trace
-pub record AreRoomDone (input lines text : List ℕ) : Type 0 where
-  pub topology : List ℕ
-  pub script : List ℕ
-  pub parts : IsRunInput input topology script
-  pub objects : AreRoomObjects topology script lines text
+  pub objects : AreRunObjects with_room topology script text totals
+  pub of_lines : List ℕ
+  pub records : AreOfRecords lines of_lines
+  pub whole : text ≡ heads_in (room_if with_room topology script) ++ of_lines
 
 -- a text is the objects of these lines
 abbrev pub AreObjectsOf : Objects → List ℕ → List ℕ → List ℕ → Type 0
-AreObjectsOf (of.Trace strict) input lines text = AreRunDone input lines text
-AreObjectsOf (of.Room strict) input lines text = AreRoomDone input lines text
+AreObjectsOf (of.Trace strict) input lines text = AreRunDone false input lines text
+AreObjectsOf (of.Room strict) input lines text = AreRunDone true input lines text
 AreObjectsOf (of.Capture form glitch margin inverted report) input lines text = text ≡ lines
 AreObjectsOf (of.Test traced) input lines text = AreReportObjects (report_kind lines) (lines_of lines) text
 AreObjectsOf (of.CaptureTest form glitch) input lines text = AreReportObjects kinds.Expectations (lines_of lines) text

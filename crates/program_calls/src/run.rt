@@ -6,8 +6,6 @@ use crate::fault::ProgramFault;
 use crate::told::Recap;
 use capture_forms::CaptureForm;
 use cli_words::{CommandChoice, Listing, Objects};
-use json_room::RoomLines;
-use json_run::emulate_objects as emulate_room;
 use program_input::run_parts;
 use room_driven::{Wires, emulate_drives};
 use room_run::Totals;
@@ -87,12 +85,13 @@ pub fn run_to_objects<W: Sink>(
     ensures { OnOk result (Writes (CommandChoice.Json (Objects.Trace strict)) [] input.now (W.contents out.old) (W.contents out.new)) }
 {
     let (topology, script) = run_parts(input)?;
-    let totals = emulate_objects(alloc, topology, script, out)?;
+    let totals = emulate_objects(alloc, topology, script, false, out)?;
     accepted(totals, strict)
 }
 
 /// The same with those of its room.
 #[inline(never)]
+#[tactic(auto, using(crate::proofs::ObjectLemmas::room_ended))]
 pub fn run_to_room<W: Sink>(
     alloc: Global,
     strict: bool,
@@ -102,12 +101,6 @@ pub fn run_to_room<W: Sink>(
     ensures { OnOk result (Writes (CommandChoice.Json (Objects.Room strict)) [] input.now (W.contents out.old) (W.contents out.new)) }
 {
     let (topology, script) = run_parts(input)?;
-    let totals = emulate_room(
-        alloc,
-        topology,
-        script,
-        RoomLines::new(topology, script),
-        out,
-    )?;
+    let totals = emulate_objects(alloc, topology, script, true, out)?;
     accepted(totals, strict)
 }

@@ -24,6 +24,7 @@ use Rattle.room_run.specs.Accepted.{ScriptsBeginEarly, ScriptsEndEarly, TextsAre
 use Rattle.room_run.specs.Run.{start, IsTrace, IsRunText}
 use Rattle.room_run.specs.Emulate.{AreObjectsOf, IsAccepted, IsLineOf, TextsHaveOneTrace, TextsHaveOneLine, TextsHaveOneTextOfObjects}
 use Rattle.room_run.proofs.Turns.{one_trace, one_run_text}
+use Rattle.room_trace.specs.Room.{room_if}
 
 -- a tree with a television has a device
 some_device : (tree : List Node) → has_root tree ≡ true → 0 < length tree
@@ -99,12 +100,12 @@ one_trace_of topology script text totals plan course edid t s e w =
     subst (λ x. IsTrace x course.end (start (first_net plan.tree course.pulses) course.events) text totals) r
     (one_run_of topology script text totals plan course (Trace w.edid) t s w.plan w.course w.accepted w.trace)
 
-pub one_text_of_objects : (topology script text : List ℕ) (totals : Totals) (plan : Plan) (course : Course) (edid : Option Edid) → topology_of topology ≡ Ok plan → IsScriptRead plan.tree script (Ok course)
-    → IsRoot plan.edid edid → AreObjectsOf topology script text totals → IsRunText (Objects edid) course.end (start (first_net plan.tree course.pulses) course.events) text totals
-one_text_of_objects topology script text totals plan course edid t s e w =
+pub one_text_of_objects : (with_room : Bool) (topology script text : List ℕ) (totals : Totals) (plan : Plan) (course : Course) (edid : Option Edid) → topology_of topology ≡ Ok plan → IsScriptRead plan.tree script (Ok course)
+    → IsRoot plan.edid edid → AreObjectsOf with_room topology script text totals → IsRunText (Objects edid (room_if with_room topology script)) course.end (start (first_net plan.tree course.pulses) course.events) text totals
+one_text_of_objects with_room topology script text totals plan course edid t s e w =
     let r : w.edid ≡ edid = one_root plan.edid w.edid edid (subst (λ q. IsRoot q.edid w.edid) (one_plan topology plan w.plan t w.accepted.plan_is) w.root) e in
-    subst (λ x. IsRunText (Objects x) course.end (start (first_net plan.tree course.pulses) course.events) text totals) r
-    (one_run_of topology script text totals plan course (Objects w.edid) t s w.plan w.course w.accepted w.objects)
+    subst (λ x. IsRunText (Objects x (room_if with_room topology script)) course.end (start (first_net plan.tree course.pulses) course.events) text totals) r
+    (one_run_of topology script text totals plan course (Objects w.edid (room_if with_room topology script)) t s w.plan w.course w.accepted w.objects)
 
 pub one_line_of : (format : CaptureForm) (topology script text : List ℕ) (totals : Totals) (plan : Plan) (course : Course) → topology_of topology ≡ Ok plan → IsScriptRead plan.tree script (Ok course)
     → IsLineOf format topology script text totals → IsRunText (Line format) course.end (start (first_net plan.tree course.pulses) course.events) text totals
@@ -122,6 +123,6 @@ texts_have_one_line format topology script x y s t p q =
     (one_line_of format topology script y t p.plan p.course p.accepted.plan_is p.accepted.course_is q)
 
 pub texts_have_one_text_of_objects : TextsHaveOneTextOfObjects
-texts_have_one_text_of_objects topology script x y s t p q =
-    one_run_text (Objects p.edid) p.course.end (start (first_net p.plan.tree p.course.pulses) p.course.events) x y s t p.objects
-    (one_text_of_objects topology script y t p.plan p.course p.edid p.accepted.plan_is p.accepted.course_is p.root q)
+texts_have_one_text_of_objects with_room topology script x y s t p q =
+    one_run_text (Objects p.edid (room_if with_room topology script)) p.course.end (start (first_net p.plan.tree p.course.pulses) p.course.events) x y s t p.objects
+    (one_text_of_objects with_room topology script y t p.plan p.course p.edid p.accepted.plan_is p.accepted.course_is p.root q)

@@ -26,7 +26,7 @@ use Rattle.room_net.proofs.Lines.{begun}
 use Rattle.room_trace.specs.TraceText.{event_line}
 use Rattle.record_core.specs.declared.cell.Form.TheVariants.{Json}
 use Rattle.room_trace.specs.PortText.{port_lines, port_texts}
-use Rattle.room_trace.specs.Records.{event_text as event_record}
+use Rattle.room_trace.specs.Room.{event_object}
 use Rattle.edid_tree.specs.Node.{Node}
 use Rattle.edid_tree.specs.Path.{is_on_wire}
 use Rattle.room_script.specs.Script.{AreFramedEvents}
@@ -241,8 +241,8 @@ applied_same later at event s = ap (λ f. applied_unless f at event (with_pulses
 reported_same : (reporting : Reporting) (later : List Stretch) (at : ℕ) (e : TimedEvent) (s : NetState) → event_reported reporting at e (with_pulses later s) ≡ event_reported reporting at e s
 reported_same (Trace edid) later at e s =
     ap₂ (λ f n. event_line at e.line f ++ port_lines at edid (is_on_wire s.tree) n) (fault_same later s e.event) (ap (λ (x : NetState). x.tree) (applied_same later at e.event s))
-reported_same (Objects edid) later at e s =
-    ap₂ (λ f n. event_record Json at e.line f ++ port_texts Json at edid (is_on_wire s.tree) n) (fault_same later s e.event) (ap (λ (x : NetState). x.tree) (applied_same later at e.event s))
+reported_same (Objects edid room) later at e s =
+    ap₂ (λ f n. event_object room at e.line f ++ port_texts Json at edid (is_on_wire s.tree) n) (fault_same later s e.event) (ap (λ (x : NetState). x.tree) (applied_same later at e.event s))
 reported_same (Line format) later at e s = refl
 
 -- ---- turns with more to come
@@ -371,7 +371,7 @@ turns_stay_certain reporting until on turns c d text events later order framed k
 
 started_same : (reporting : Reporting) (tree : List Node) (pulses later : List Stretch) → start_reported reporting (first_net tree (pulses ++ later)) ≡ start_reported reporting (first_net tree pulses)
 started_same (Trace edid) tree pulses later = refl
-started_same (Objects edid) tree pulses later = refl
+started_same (Objects edid room) tree pulses later = refl
 started_same (Line format) tree pulses later = refl
 
 pub reported_is_front : ReportedIsFront

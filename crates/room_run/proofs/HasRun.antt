@@ -23,6 +23,7 @@ use Rattle.room_run.specs.declared.run.Turn.TheVariants.{Stop, Apply, Round}
 use Rattle.room_run.specs.Run.{Config, start, turn_at, turn_of, first_time, round_turn, counted_event, counted_round, IsEventTurn, IsTurnBy, IsTurn, IsRunTextFrom, event_reported, round_reported, start_reported, end_reported}
 use Rattle.room_run.specs.HasRun.{RunsHaveTexts, TextsHaveObjects, TextsHaveTraces}
 use Rattle.room_run.proofs.Advance.{left_in_order, round_begins}
+use Rattle.room_trace.specs.Room.{room_if}
 
 -- ---- one turn
 
@@ -124,7 +125,7 @@ texts_have_traces topology script plan course edid accepted root =
     )
 
 pub texts_have_objects : TextsHaveObjects
-texts_have_objects topology script plan course edid accepted root =
+texts_have_objects with_room topology script plan course edid accepted root =
     let order = (scripts_are_sound plan.tree script course accepted.course_is).timely.order in
-    let text = runs_have_texts (Objects edid) plan.tree course.pulses course.events course.end order in
+    let text = runs_have_texts (Objects edid (room_if with_room topology script)) plan.tree course.pulses course.events course.end order in
     (text.0, text.1, record { plan = plan; course = course; edid = edid; accepted = accepted; root = root; objects = text.2 })

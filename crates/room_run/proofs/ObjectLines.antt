@@ -1,5 +1,5 @@
 -- The objects of a trace are those of its lines.
-use Rattle.std.proofs.Common.{◌≡◌, ℕ, zero, suc, Bool, true, false, not, ◌&&◌, if◌then◌else◌, List, [], ◌∷◌, ◌++◌, codes, Option, None, Some, refl, sym, ap, ap₂, subst, append-nil, ◌∙◌}
+use Rattle.std.proofs.Common.{◌≡◌, ℕ, zero, suc, Bool, true, false, not, ◌&&◌, if◌then◌else◌, List, [], ◌∷◌, ◌++◌, codes, Option, None, Some, refl, sym, ap, ap₂, subst, append-nil, append_assoc, ◌∙◌}
 use Rattle.std.proofs.lemmas.Grind.{flat_map-append}
 use Rattle.std.specs.List.{flat_map, range_with_len}
 use Rattle.line_rounds.specs.declared.Outcome.{Outcome}
@@ -18,6 +18,7 @@ use Rattle.room_net.specs.State.{NetState}
 use Rattle.room_script.specs.declared.script.TimedEvent.{TimedEvent}
 use Rattle.room_trace.specs.PortText.{name_in, port_cells, port_text, port_texts, texts_of_new, texts_of_ports}
 use Rattle.room_trace.specs.Records.{end_cells, end_text, event_cells, event_text as event_record, round_cells, round_text, state_cells, state_text}
+use Rattle.room_trace.specs.Room.{Room, event_object, heads_in, line_at, room_if, said_cells}
 use Rattle.room_trace.proofs.Records.{port_same, same_lines}
 use Rattle.room_run.specs.declared.run.Reporting.TheVariants.{Objects, Trace}
 use Rattle.room_run.specs.declared.run.Totals.{Totals}
@@ -50,8 +51,16 @@ each f g (x ∷ xs) h = two (f x) (flat_map f xs) (g x) (flat_map g xs) (h x) (e
 round_of : (devices : List State) (o : Outcome) → AreOfRecords (round_text Text devices o) (round_text Json devices o)
 round_of devices o = one (codes "round") (round_text Text devices o) (round_cells devices o) (same_lines.round devices o)
 
-event_of : (at line : ℕ) (refused : Option EventError) → AreOfRecords (event_record Text at line refused) (event_record Json at line refused)
-event_of at line refused = one (codes "event") (event_record Text at line refused) (event_cells at line refused) (same_lines.event at line refused)
+-- what its line of the script says stands in its object alone
+said_same : (at line : ℕ) (refused : Option EventError) (said : List ℕ) → line_of (event_cells at line refused ++ said_cells said) ≡ event_record Text at line refused
+said_same at line None said = same_lines.event at line None
+said_same at line (Some error) said = same_lines.event at line (Some error)
+
+event_of : (room : Option Room) (at line : ℕ) (refused : Option EventError) → AreOfRecords (event_record Text at line refused) (event_object room at line refused)
+event_of None at line refused = one (codes "event") (event_record Text at line refused) (event_cells at line refused) (same_lines.event at line refused)
+event_of (Some room) at line refused =
+    let said = line_at room.script line in
+    one (codes "event") (event_record Text at line refused) (event_cells at line refused ++ said_cells said) (said_same at line refused said)
 
 state_of : (d : State) → AreOfRecords (state_text Text d) (state_text Json d)
 state_of d = one (codes "state") (state_text Text d) (state_cells d) (same_lines.state d)
@@ -77,12 +86,12 @@ ports_of_all at None was tree = none
 ports_of_all at (Some root) was tree =
     each (λ device. texts_of_new Text at root tree (was device) device) (λ device. texts_of_new Json at root tree (was device) device) _ (λ device. new_of at root tree (was device) device)
 
-event_parts : (edid : Option Edid) (at : ℕ) (e : TimedEvent) (s : NetState) → AreOfRecords (event_text edid at e s) (event_objects edid at e s)
-event_parts edid at e s =
-    two _ _ _ _ (event_of at e.line (event_fault s e.event)) (ports_of_all at edid (is_on_wire s.tree) (net_after at e.event s).tree)
+event_parts : (edid : Option Edid) (room : Option Room) (at : ℕ) (e : TimedEvent) (s : NetState) → AreOfRecords (event_text edid at e s) (event_objects edid room at e s)
+event_parts edid room at e s =
+    two _ _ _ _ (event_of room at e.line (event_fault s e.event)) (ports_of_all at edid (is_on_wire s.tree) (net_after at e.event s).tree)
 
-end_parts : (edid : Option Edid) (end : ℕ) (s : NetState) → AreOfRecords (end_reported (Trace edid) end s) (end_reported (Objects edid) end s)
-end_parts edid end s = two _ _ _ _ (each (state_text Text) (state_text Json) s.devices state_of) (end_of end)
+end_parts : (edid : Option Edid) (room : Option Room) (end : ℕ) (s : NetState) → AreOfRecords (end_reported (Trace edid) end s) (end_reported (Objects edid room) end s)
+end_parts edid room end s = two _ _ _ _ (each (state_text Text) (state_text Json) s.devices state_of) (end_of end)
 
 -- ---- turn by turn
 
@@ -91,32 +100,32 @@ record IsShown (edid : Option Edid) (turn : Turn) (c : Config) (objects : List �
   turned : IsTurnBy (Trace edid) turn c text d
   are : AreOfRecords text objects
 
-event_shown : (edid : Option Edid) (at : ℕ) (events : List TimedEvent) (c d : Config) (objects : List ℕ) → IsEventTurn (Objects edid) at events c objects d
+event_shown : (edid : Option Edid) (room : Option Room) (at : ℕ) (events : List TimedEvent) (c d : Config) (objects : List ℕ) → IsEventTurn (Objects edid room) at events c objects d
     → (text : List ℕ) × IsEventTurn (Trace edid) at events c text d × AreOfRecords text objects
-event_shown edid at [] c d objects (none_said, same) = ([], (refl, same), subst (λ (x : List ℕ). AreOfRecords [] x) (sym none_said) none)
-event_shown edid at (e ∷ events) c d objects (said, after) =
-    (event_text edid at e c.net, (refl, after), subst (λ (x : List ℕ). AreOfRecords (event_text edid at e c.net) x) (sym said) (event_parts edid at e c.net))
+event_shown edid room at [] c d objects (none_said, same) = ([], (refl, same), subst (λ (x : List ℕ). AreOfRecords [] x) (sym none_said) none)
+event_shown edid room at (e ∷ events) c d objects (said, after) =
+    (event_text edid at e c.net, (refl, after), subst (λ (x : List ℕ). AreOfRecords (event_text edid at e c.net) x) (sym said) (event_parts edid room at e c.net))
 
-round_shown : (edid : Option Edid) (begin : ℕ) (c d : Config) (objects : List ℕ) → IsRoundTurn (Objects edid) begin c.net c.totals objects d.net d.totals
+round_shown : (edid : Option Edid) (room : Option Room) (begin : ℕ) (c d : Config) (objects : List ℕ) → IsRoundTurn (Objects edid room) begin c.net c.totals objects d.net d.totals
     → (text : List ℕ) × IsRoundTurn (Trace edid) begin c.net c.totals text d.net d.totals × AreOfRecords text objects
-round_shown edid begin c d objects t = (
+round_shown edid room begin c d objects t = (
   round_text Text d.net.devices t.outcome,
   record { outcome = t.outcome; wave = t.wave; next = t.next; reported = refl; totals = t.totals },
   subst (λ (x : List ℕ). AreOfRecords (round_text Text d.net.devices t.outcome) x) (sym t.reported) (round_of d.net.devices t.outcome),
 )
 
-turn_shown : (edid : Option Edid) (turn : Turn) (c d : Config) (objects : List ℕ) → IsTurnBy (Objects edid) turn c objects d → IsShown edid turn c objects d
-turn_shown edid Stop c d objects t = absurd t
-turn_shown edid (Apply at) c d objects t = (let shown = event_shown edid at c.events c d objects t in record { text = shown.0; turned = shown.1; are = shown.2 })
-turn_shown edid (Round begin) c d objects (round, events) =
-    (let shown = round_shown edid begin c d objects round in record { text = shown.0; turned = (shown.1, events); are = shown.2 })
+turn_shown : (edid : Option Edid) (room : Option Room) (turn : Turn) (c d : Config) (objects : List ℕ) → IsTurnBy (Objects edid room) turn c objects d → IsShown edid turn c objects d
+turn_shown edid room Stop c d objects t = absurd t
+turn_shown edid room (Apply at) c d objects t = (let shown = event_shown edid room at c.events c d objects t in record { text = shown.0; turned = shown.1; are = shown.2 })
+turn_shown edid room (Round begin) c d objects (round, events) =
+    (let shown = round_shown edid room begin c d objects round in record { text = shown.0; turned = (shown.1, events); are = shown.2 })
 
-leads_shown : (edid : Option Edid) (end turns : ℕ) (c d : Config) (objects : List ℕ) → Leads (Objects edid) end turns c objects d
+leads_shown : (edid : Option Edid) (room : Option Room) (end turns : ℕ) (c d : Config) (objects : List ℕ) → Leads (Objects edid room) end turns c objects d
     → (text : List ℕ) × Leads (Trace edid) end turns c text d × AreOfRecords text objects
-leads_shown edid end zero c d objects (said, same) = ([], (refl, same), subst (λ (x : List ℕ). AreOfRecords [] x) (sym said) none)
-leads_shown edid end (suc turns) c d objects (mid, first, rest, turn, more, whole) =
-    let one_turn = turn_shown edid (turn_at end c) c mid first turn in
-    let others = leads_shown edid end turns mid d rest more in (
+leads_shown edid room end zero c d objects (said, same) = ([], (refl, same), subst (λ (x : List ℕ). AreOfRecords [] x) (sym said) none)
+leads_shown edid room end (suc turns) c d objects (mid, first, rest, turn, more, whole) =
+    let one_turn = turn_shown edid room (turn_at end c) c mid first turn in
+    let others = leads_shown edid room end turns mid d rest more in (
       one_turn.text ++ others.0,
       (mid, one_turn.text, others.0, one_turn.turned, others.1, refl),
       subst (λ (x : List ℕ). AreOfRecords (one_turn.text ++ others.0) x) (sym whole) (two one_turn.text others.0 first rest one_turn.are others.2),
@@ -124,28 +133,30 @@ leads_shown edid end (suc turns) c d objects (mid, first, rest, turn, more, whol
 
 -- ---- the whole run
 
-from_shown : (edid : Option Edid) (end : ℕ) (c : Config) (objects : List ℕ) (totals : Totals) → IsRunTextFrom (Objects edid) end c objects totals
+from_shown : (edid : Option Edid) (room : Option Room) (end : ℕ) (c : Config) (objects : List ℕ) (totals : Totals) → IsRunTextFrom (Objects edid room) end c objects totals
     → (text : List ℕ) × IsRunTextFrom (Trace edid) end c text totals × AreOfRecords text objects
-from_shown edid end c objects totals w =
-    let body = leads_shown edid end w.turns c w.last w.body w.leads in
+from_shown edid room end c objects totals w =
+    let body = leads_shown edid room end w.turns c w.last w.body w.leads in
     let tail = end_reported (Trace edid) end w.last.net in (
       body.0 ++ tail,
       record { turns = w.turns; last = w.last; body = body.0; leads = body.1; stops = w.stops; whole = refl; counts = w.counts },
-      subst (λ (x : List ℕ). AreOfRecords (body.0 ++ tail) x) (sym w.whole) (two body.0 tail w.body (end_reported (Objects edid) end w.last.net) body.2 (end_parts edid end w.last.net)),
+      subst (λ (x : List ℕ). AreOfRecords (body.0 ++ tail) x) (sym w.whole) (two body.0 tail w.body (end_reported (Objects edid room) end w.last.net) body.2 (end_parts edid room end w.last.net)),
     )
 
-run_shown : (edid : Option Edid) (end : ℕ) (c : Config) (objects : List ℕ) (totals : Totals) → IsRunText (Objects edid) end c objects totals
-    → (text : List ℕ) × IsRunText (Trace edid) end c text totals × AreOfRecords text objects
-run_shown edid end c objects totals w =
-    let rest = from_shown edid end c w.rest totals w.run in
-    let first = start_reported (Trace edid) c.net in (
+run_shown : (edid : Option Edid) (room : Option Room) (end : ℕ) (c : Config) (text : List ℕ) (totals : Totals) → IsRunText (Objects edid room) end c text totals
+    → (trace : List ℕ) × (objects : List ℕ) × IsRunText (Trace edid) end c trace totals × AreOfRecords trace objects × (text ≡ heads_in room ++ objects)
+run_shown edid room end c text totals w =
+    let rest = from_shown edid room end c w.rest totals w.run in
+    let first = start_reported (Trace edid) c.net in
+    let ports = port_texts Json 0 edid (λ device. false) c.net.tree in (
       first ++ rest.0,
+      ports ++ w.rest,
       record { rest = rest.0; run = rest.1; whole = refl },
-      subst (λ (x : List ℕ). AreOfRecords (first ++ rest.0) x) (sym w.whole)
-          (two first rest.0 (start_reported (Objects edid) c.net) w.rest (ports_of_all 0 edid (λ device. false) c.net.tree) rest.2),
+      two first rest.0 ports w.rest (ports_of_all 0 edid (λ device. false) c.net.tree) rest.2,
+      w.whole ∙ append_assoc (heads_in room) ports w.rest,
     )
 
 pub objects_are_of_the_trace : ObjectsAreOfTheTrace
-objects_are_of_the_trace topology script objects totals w =
-    let shown = run_shown w.edid w.course.end _ objects totals w.objects in
-    (shown.0, record { plan = w.plan; course = w.course; edid = w.edid; accepted = w.accepted; root = w.root; trace = shown.1 }, shown.2)
+objects_are_of_the_trace with_room topology script text totals w =
+    let shown = run_shown w.edid (room_if with_room topology script) w.course.end _ text totals w.objects in
+    (shown.0, shown.1, record { plan = w.plan; course = w.course; edid = w.edid; accepted = w.accepted; root = w.root; trace = shown.2 }, shown.3, shown.4)

@@ -14,7 +14,8 @@ use Rattle.room_event.specs.declared.event.EventError.{EventError}
 use Rattle.room_net.specs.State.{NetState}
 use Rattle.record_core.specs.declared.cell.Form.TheVariants.{Json}
 use Rattle.room_trace.specs.PortText.{port_lines, port_texts}
-use Rattle.room_trace.specs.Records.{event_text as event_record, round_text}
+use Rattle.room_trace.specs.Records.{round_text}
+use Rattle.room_trace.specs.Room.{Room, event_object}
 use Rattle.room_trace.specs.TraceText.{event_line, round_line}
 use Rattle.capture_forms.specs.declared.form.CaptureForm.{CaptureForm}
 use Rattle.room_run.specs.declared.run.Totals.{Totals}
@@ -57,16 +58,16 @@ trace_by edid (Round begin) c x d h = (
   h.events,
 )
 
-pub objects_by : (edid : Option Edid) → SaysOf (Objects edid) (objects_of edid)
-objects_by edid Stop c x d h = absurd h
-objects_by edid (Apply at) c x d h =
-    subst (λ (es : List TimedEvent). IsEventTurn (Objects edid) at es c (objects_of edid x) d) (sym h.next) (ap (objects_of edid) h.is, h.after)
-objects_by edid (Round begin) c x d h = (
+pub objects_by : (edid : Option Edid) (room : Option Room) → SaysOf (Objects edid room) (objects_of edid room)
+objects_by edid room Stop c x d h = absurd h
+objects_by edid room (Apply at) c x d h =
+    subst (λ (es : List TimedEvent). IsEventTurn (Objects edid room) at es c (objects_of edid room x) d) (sym h.next) (ap (objects_of edid room) h.is, h.after)
+objects_by edid room (Round begin) c x d h = (
   record {
     outcome = h.outcome;
     wave = h.wave;
     next = h.next;
-    reported = ap (objects_of edid) h.is ∙ object_before c.net begin h.outcome ∙ ap (λ (s : NetState). round_text Json s.devices h.outcome) (sym h.next.after_is);
+    reported = ap (objects_of edid room) h.is ∙ object_before c.net begin h.outcome ∙ ap (λ (s : NetState). round_text Json s.devices h.outcome) (sym h.next.after_is);
     totals = h.totals;
   },
   h.events,
@@ -178,10 +179,10 @@ event_added at edid e before after refused was tree a b c applied tree_is line p
     subst (λ (t : List ℕ). Adds a c t) (ap₂ (λ (x y : List ℕ). x ++ y) (ap (event_line at e.line) applied.refused_is) same) (then a b c (event_line at e.line refused) lines line ports)
 
 -- the same as objects
-pub event_objects_added : (at : ℕ) (edid : Option Edid) (e : TimedEvent) (before after : NetState) (refused : Option EventError) (was : List Bool) (tree : List Node) (a b c : Tally)
-    → IsApplied at e before refused was after → tree ≡ after.tree → Adds a b (event_record Json at e.line refused) → Adds b c (port_texts Json at edid (λ device. get_or was device false) tree)
-    → Adds a c (event_objects edid at e before)
-event_objects_added at edid e before after refused was tree a b c applied tree_is object ports =
+pub event_objects_added : (at : ℕ) (edid : Option Edid) (room : Option Room) (e : TimedEvent) (before after : NetState) (refused : Option EventError) (was : List Bool) (tree : List Node) (a b c : Tally)
+    → IsApplied at e before refused was after → tree ≡ after.tree → Adds a b (event_object room at e.line refused) → Adds b c (port_texts Json at edid (λ device. get_or was device false) tree)
+    → Adds a c (event_objects edid room at e before)
+event_objects_added at edid room e before after refused was tree a b c applied tree_is object ports =
     let objects = port_texts Json at edid (λ device. get_or was device false) tree in
     let same = event_port_texts Json at edid e before after before.tree tree was applied.after_is refl tree_is applied.was_is in
-    subst (λ (t : List ℕ). Adds a c t) (ap₂ (λ (x y : List ℕ). x ++ y) (ap (event_record Json at e.line) applied.refused_is) same) (then a b c (event_record Json at e.line refused) objects object ports)
+    subst (λ (t : List ℕ). Adds a c t) (ap₂ (λ (x y : List ℕ). x ++ y) (ap (event_object room at e.line) applied.refused_is) same) (then a b c (event_object room at e.line refused) objects object ports)

@@ -20,6 +20,7 @@ use Rattle.capture_forms.specs.declared.form.CaptureForm.{CaptureForm}
 use Rattle.capture_forms.specs.declared.form.CaptureForm.TheVariants.{Edges}
 use Rattle.room_run.specs.declared.run.Reporting.TheVariants.{Line, Objects}
 use Rattle.room_run.specs.Run.{start, IsRunText, IsTrace}
+use Rattle.room_trace.specs.Room.{room_if}
 
 -- the texts spell this topology and this script
 pub record IsAccepted (topology script : List ℕ) (plan : Plan) (course : Course) : Type 0 where
@@ -35,14 +36,14 @@ pub record IsTraceOf (topology script text : List ℕ) (totals : Totals) : Type 
   pub root : IsRoot plan.edid edid
   pub trace : IsTrace edid course.end (start (first_net plan.tree course.pulses) course.events) text totals
 
--- the objects of that trace
-pub record AreObjectsOf (topology script text : List ℕ) (totals : Totals) : Type 0 where
+-- the objects of that trace, with those of the room or without
+pub record AreObjectsOf (with_room : Bool) (topology script text : List ℕ) (totals : Totals) : Type 0 where
   pub plan : Plan
   pub course : Course
   pub edid : Option EdidValue
   pub accepted : IsAccepted topology script plan course
   pub root : IsRoot plan.edid edid
-  pub objects : IsRunText (Objects edid) course.end (start (first_net plan.tree course.pulses) course.events) text totals
+  pub objects : IsRunText (Objects edid (room_if with_room topology script)) course.end (start (first_net plan.tree course.pulses) course.events) text totals
 
 -- the line of the run that the texts spell, and its end, in a format
 pub record IsLineOf (format : CaptureForm) (topology script text : List ℕ) (totals : Totals) : Type 0 where
@@ -73,9 +74,9 @@ abbrev pub root_reported : RootError → EmulateError
 root_reported (roots.Cause cause) = Edid cause
 root_reported roots.Memory = Memory
 
--- and one text of its objects
+-- and one text of its objects, with those of the room and without
 abbrev pub TextsHaveOneTextOfObjects : Type 0
-TextsHaveOneTextOfObjects = (topology script x y : List ℕ) (s t : Totals) → AreObjectsOf topology script x s → AreObjectsOf topology script y t → (x ≡ y) × (s ≡ t)
+TextsHaveOneTextOfObjects = (with_room : Bool) (topology script x y : List ℕ) (s t : Totals) → AreObjectsOf with_room topology script x s → AreObjectsOf with_room topology script y t → (x ≡ y) × (s ≡ t)
 
 -- and one text of their line in each format
 abbrev pub TextsHaveOneLine : Type 0
@@ -106,8 +107,8 @@ IsCutText IsDue old new Memory = new ≡ old
 abbrev pub IsCut : List ℕ → List ℕ → Option (List ℕ) → Option (List ℕ) → EmulateError → Type 0
 IsCut topology script = IsCutText (IsTraceOf topology script)
 
-abbrev pub AreObjectsCut : List ℕ → List ℕ → Option (List ℕ) → Option (List ℕ) → EmulateError → Type 0
-AreObjectsCut topology script = IsCutText (AreObjectsOf topology script)
+abbrev pub AreObjectsCut : Bool → List ℕ → List ℕ → Option (List ℕ) → Option (List ℕ) → EmulateError → Type 0
+AreObjectsCut with_room topology script = IsCutText (AreObjectsOf with_room topology script)
 
 abbrev pub IsLineCut : CaptureForm → List ℕ → List ℕ → Option (List ℕ) → Option (List ℕ) → EmulateError → Type 0
 IsLineCut format topology script = IsCutText (IsLineOf format topology script)

@@ -13,6 +13,7 @@ use Rattle.capture_forms.specs.Format.{line_round}
 use Rattle.capture_forms.specs.declared.form.CaptureForm.{CaptureForm}
 use Rattle.record_core.specs.declared.cell.Form.TheVariants.{Json}
 use Rattle.room_trace.specs.Records.{round_text}
+use Rattle.room_trace.specs.Room.{Room}
 use Rattle.room_trace.specs.TraceText.{round_line}
 use Rattle.room_run.specs.declared.run.Turn.{Turn}
 use Rattle.room_run.specs.declared.run.Turn.TheVariants.{Stop, Apply, Round}
@@ -73,11 +74,15 @@ abbrev pub text_of : Option Edid → Happening → List ℕ
 text_of edid (OfEvent at e before) = event_text edid at e before
 text_of edid (OfRound begin before o) = round_line before.devices o
 
--- ---- its objects
+-- ---- its objects, in a room or without
 
-abbrev pub objects_of : Option Edid → Happening → List ℕ
-objects_of edid (OfEvent at e before) = event_objects edid at e before
-objects_of edid (OfRound begin before o) = round_text Json before.devices o
+abbrev pub objects_of : Option Edid → Option Room → Happening → List ℕ
+objects_of edid room (OfEvent at e before) = event_objects edid room at e before
+objects_of edid room (OfRound begin before o) = round_text Json before.devices o
+
+-- what stays of a reporter that adds them: the EDID that ports pass on, and the room
+abbrev pub given : Option Edid → Option Room → Option Edid × Option Room
+given edid room = (edid, room)
 
 -- ---- the line in a format: of an event nothing, of a round its line
 

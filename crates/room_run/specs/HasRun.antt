@@ -1,5 +1,5 @@
 -- A run has a text (own).
-use Rattle.std.specs.Prelude.{ℕ, List, Option}
+use Rattle.std.specs.Prelude.{ℕ, Bool, List, Option}
 use Rattle.line_wave.specs.declared.Stretch.{Stretch}
 use Rattle.line_wave.specs.Line.{IsWave}
 use Rattle.edid_tree.specs.Node.{Node}
@@ -26,7 +26,7 @@ abbrev pub TextsHaveTraces : Type 0
 TextsHaveTraces = (topology script : List ℕ) (plan : Plan) (course : Course) (edid : Option Edid) → IsAccepted topology script plan course → IsRoot plan.edid edid
     → ((text : List ℕ) × (totals : Totals) × IsTraceOf topology script text totals) × ((format : CaptureForm) → (text : List ℕ) × (totals : Totals) × IsLineOf format topology script text totals)
 
--- and the objects of the trace
+-- and the objects of the trace, with those of the room and without
 abbrev pub TextsHaveObjects : Type 0
-TextsHaveObjects = (topology script : List ℕ) (plan : Plan) (course : Course) (edid : Option Edid) → IsAccepted topology script plan course → IsRoot plan.edid edid
-    → (text : List ℕ) × (totals : Totals) × AreObjectsOf topology script text totals
+TextsHaveObjects = (with_room : Bool) (topology script : List ℕ) (plan : Plan) (course : Course) (edid : Option Edid) → IsAccepted topology script plan course → IsRoot plan.edid edid
+    → (text : List ℕ) × (totals : Totals) × AreObjectsOf with_room topology script text totals

@@ -19,7 +19,8 @@ use Rattle.edid_tree.specs.Path.{is_on_wire}
 use Rattle.room_trace.specs.StateText.{state_line}
 use Rattle.record_core.specs.declared.cell.Form.TheVariants.{Json}
 use Rattle.room_trace.specs.PortText.{port_lines, port_texts}
-use Rattle.room_trace.specs.Records.{end_text, event_text as event_record, round_text, state_text}
+use Rattle.room_trace.specs.Records.{end_text, round_text, state_text}
+use Rattle.room_trace.specs.Room.{Room, event_object, heads_in}
 use Rattle.device_core.specs.State.{State}
 use Rattle.message_text.specs.ReadingText.{is_complete}
 use Rattle.room_trace.specs.TraceText.{event_line, round_line, end_line}
@@ -69,13 +70,14 @@ turn_at end c = turn_of end c.net (first_time c.events)
 -- the EDID that ports pass on, where it is given, has an address
 abbrev pub HasAddressReported : Reporting → Type 0
 HasAddressReported (Trace edid) = HasAddress edid
-HasAddressReported (Objects edid) = HasAddress edid
+HasAddressReported (Objects edid room) = HasAddress edid
 HasAddressReported (Line format) = Unit {0}
 
--- at the start: the port lines of the devices that are on the wire, or what stands first in a format
+-- at the start: the port lines of the devices that are on the wire, or their objects after those of the room, or what stands first in a
+-- format
 abbrev pub start_reported : Reporting → NetState → List ℕ
 start_reported (Trace edid) s = port_lines 0 edid (λ device. false) s.tree
-start_reported (Objects edid) s = port_texts Json 0 edid (λ device. false) s.tree
+start_reported (Objects edid room) s = heads_in room ++ port_texts Json 0 edid (λ device. false) s.tree
 start_reported (Line format) s = line_start format
 
 -- an event's line, and after it the port lines of the devices that come onto the wire by it
@@ -83,25 +85,25 @@ abbrev pub event_text : Option Edid → ℕ → TimedEvent → NetState → List
 event_text edid at e s = event_line at e.line (event_fault s e.event) ++ port_lines at edid (is_on_wire s.tree) (net_after at e.event s).tree
 
 -- the same as objects
-abbrev pub event_objects : Option Edid → ℕ → TimedEvent → NetState → List ℕ
-event_objects edid at e s = event_record Json at e.line (event_fault s e.event) ++ port_texts Json at edid (is_on_wire s.tree) (net_after at e.event s).tree
+abbrev pub event_objects : Option Edid → Option Room → ℕ → TimedEvent → NetState → List ℕ
+event_objects edid room at e s = event_object room at e.line (event_fault s e.event) ++ port_texts Json at edid (is_on_wire s.tree) (net_after at e.event s).tree
 
 -- of an event: its text or its objects, and nothing of the line
 abbrev pub event_reported : Reporting → ℕ → TimedEvent → NetState → List ℕ
 event_reported (Trace edid) at e s = event_text edid at e s
-event_reported (Objects edid) at e s = event_objects edid at e s
+event_reported (Objects edid room) at e s = event_objects edid room at e s
 event_reported (Line format) at e s = []
 
 -- of a round, by the devices after it: its line in the trace, its object, or its wave in the format
 abbrev pub round_reported : Reporting → List State → Outcome → List ℕ
 round_reported (Trace edid) devices o = round_line devices o
-round_reported (Objects edid) devices o = round_text Json devices o
+round_reported (Objects edid room) devices o = round_text Json devices o
 round_reported (Line format) devices o = line_round format o.wave
 
 -- at the end: a state line for each device, and the end, or their objects; or the end of the line, but not before the last round has closed
 abbrev pub end_reported : Reporting → ℕ → NetState → List ℕ
 end_reported (Trace edid) end s = flat_map state_line s.devices ++ end_line end
-end_reported (Objects edid) end s = flat_map (state_text Json) s.devices ++ end_text Json end
+end_reported (Objects edid room) end s = flat_map (state_text Json) s.devices ++ end_text Json end
 end_reported (Line format) end s = line_end format (max end s.close)
 
 -- ---- one turn, and what it reports

@@ -103,7 +103,7 @@ impl From<RootError> for EmulateError {
 
 // That a trace is written with this EDID, on the heap: it is large.
 #[inline(never)]
-fn trace_with(alloc: Global, edid: Option<Box<Edid>>) -> Result<Box<Reporting>, AllocError>
+fn trace_with<'a>(alloc: Global, edid: Option<Box<Edid>>) -> Result<Box<Reporting<'a>>, AllocError>
     ensures { IfOk result (λ reporting. reporting.value ≡ Trace (option_map (λ b. b.value) edid)) }
 {
     let reporting = match edid {

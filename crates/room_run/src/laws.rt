@@ -1,7 +1,7 @@
 //! Laws of runs.
 ghost use Rattle.room_run.specs.Run.{OneRunText, OneTrace};
 ghost use Rattle.room_run.specs.RunLine.{EdgesAreTheLine, LinesAreOfTheRounds, RunsAreRead, RunsAreShort};
-ghost use Rattle.room_run.specs.Accepted.{AddressedEach, AddressesAreThere, ScriptsBeginEarly, ScriptsEndEarly, TextsAreOfOneRun, TopologiesHaveDevices};
+ghost use Rattle.room_run.specs.Accepted.{ScriptsBeginEarly, ScriptsEndEarly, TextsAreOfOneRun, TopologiesHaveDevices};
 ghost use Rattle.room_run.specs.Emulate.{TextsHaveOneLine, TextsHaveOneTextOfObjects, TextsHaveOneTrace};
 ghost use Rattle.room_run.specs.Objects.{ObjectsAreOfTheTrace};
 ghost use Rattle.room_run.specs.Heard.{TurnsAreAdded};
@@ -10,7 +10,7 @@ ghost use Rattle.room_run.specs.OneRun.{OneRun, RunsCloseSoon, TextsHaveOneRun, 
 ghost use Rattle.room_run.specs.Certain.{AllBeforeIsOne, LatePulsesDoNotPull, NoneAfterHeld, ReportedIsFront, RoundTurnsStay, RoundsStay, TurnsAreCertain, TurnsStayCertain};
 ghost use Rattle.room_run.specs.Causal.{RunsAreCausal, TracesAreCausal};
 ghost use Rattle.room_run.specs.HeldTrace.{TextsHaveOneHeldTrace};
-ghost use Rattle.room_run.specs.Turns.{EventTurns, EventsAreRefused, EventsHappen, EventsKeepComplete, EventsKeepRounds, NoneAfterStop, PortsAreThoseBefore};
+ghost use Rattle.room_run.specs.Turns.{EventTurns, EventsAreRefused, EventsHappen, EventsKeepComplete, EventsKeepRounds, NoneAfterStop};
 ghost use Rattle.room_run.specs.Turns.{RoundTurns, RoundTurnsBegin, RoundsAreCounted, RoundsBringOn, RoundsHappen, RunsAreTold, SameOutcomesAreOne};
 ghost use Rattle.room_run.specs.Turns.{SchedulesGoOn, TextsBeginSo, TracesSay, TurnsAreOne};
 
@@ -39,7 +39,8 @@ pub fn texts_have_one_trace()
     ensures { TextsHaveOneTrace }
 {}
 
-/// The texts of a topology and a script have one text of the objects of their trace, and one count of what it reports.
+/// The texts of a topology and a script have one text of the objects of their trace, with those of the room and without, and one count
+/// of what it reports.
 pub fn texts_have_one_text_of_objects()
     ensures { TextsHaveOneTextOfObjects }
 {}
@@ -49,7 +50,7 @@ pub fn texts_have_objects()
     ensures { TextsHaveObjects }
 {}
 
-/// The objects of a trace are those of its lines, one for one.
+/// The objects of a trace are those of its lines, one for one, after those of the room.
 pub fn objects_are_of_the_trace()
     ensures { ObjectsAreOfTheTrace }
 {}
@@ -161,13 +162,6 @@ pub fn accepted_texts_fit_runs()
     ensures trace { TextsAreOfOneRun }
 {}
 
-/// The EDID that ports pass on has an address, where one is given: said of none or one, or of each that is given, it is the
-/// same.
-pub fn passed_edids_have_addresses()
-    ensures each { AddressesAreThere }
-    ensures all { AddressedEach }
-{}
-
 /// A round's turn begins at the next start, before the end, and brings the rest and the close on. After an event's turn the
 /// events that are left are in order.
 pub fn turns_bring_on()
@@ -215,11 +209,6 @@ pub fn rounds_stay()
     ensures late { LatePulsesDoNotPull }
     ensures round { RoundsStay }
     ensures turn { RoundTurnsStay }
-{}
-
-/// The ports whose devices come onto the wire by an event are told by which devices were on it before.
-pub fn ports_go_by_what_was()
-    ensures { PortsAreThoseBefore }
 {}
 
 /// A reporter that adds a text of each turn, by something that stays, has added the texts of the turns, one after another.

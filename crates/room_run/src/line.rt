@@ -14,7 +14,7 @@ use text_core::Sink;
 
 // That the line is written in a format, on the heap: it takes as much room as an EDID.
 #[inline(never)]
-fn line_in(alloc: Global, format: CaptureForm) -> Result<Box<Reporting>, AllocError>
+fn line_in<'a>(alloc: Global, format: CaptureForm) -> Result<Box<Reporting<'a>>, AllocError>
     ensures { IfOk result (λ reporting. reporting.value ≡ Line format) }
 {
     let reporting = Box::new(alloc, Reporting::Line(format))?;

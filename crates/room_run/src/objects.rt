@@ -3,27 +3,60 @@ ghost use Rattle.std.specs.Prelude.{◌≡◌, ℕ, List, ◌↔◌, false, IfOk
 ghost use Rattle.std.specs.Io.KnownBytes.{Appends};
 ghost use Rattle.room_run.specs.declared.run.Reporting.TheVariants.{Objects};
 ghost use Rattle.room_run.specs.Emulate.{AreObjectsCut, AreObjectsOf, IsReported, is_write};
+ghost use Rattle.room_trace.specs.Room.{room_if};
 
 use crate::emulate::EmulateError;
 use crate::run::{Reporting, Totals, run, started_net};
 use edid_core::{Edid, root_on_heap};
 use room_script::{parse_script, parse_topology};
+use room_trace::RoomTexts;
 use std::alloc::{AllocError, Global};
 use text_core::Sink;
 
-// That objects are written with this EDID, on the heap: it is large.
+// That objects are written with this EDID and in this room, on the heap: the EDID is large.
 #[inline(never)]
-fn objects_with(alloc: Global, edid: Option<Box<Edid>>) -> Result<Box<Reporting>, AllocError>
-    ensures { IfOk result (λ reporting. reporting.value ≡ Objects (option_map (λ b. b.value) edid)) }
+fn objects_with<'a>(
+    alloc: Global,
+    edid: Option<Box<Edid>>,
+    room: Option<RoomTexts<'a>>,
+) -> Result<Box<Reporting<'a>>, AllocError>
+    ensures { IfOk result (λ reporting. reporting.value ≡ Objects (option_map (λ b. b.value) edid) room.entry) }
 {
     let reporting = match edid {
-        None => Box::new(alloc, Reporting::Objects(None))?,
-        Some(edid) => Box::new(alloc, Reporting::Objects(Some(Box::into_inner(edid))))?,
+        None => Box::new(alloc, Reporting::Objects(None, room))?,
+        Some(edid) => Box::new(alloc, Reporting::Objects(Some(Box::into_inner(edid)), room))?,
     };
     Ok(reporting)
 }
 
-/// Runs a script on a topology, and writes while it runs an object of JSON for each line of the trace, a line each.
+// A room, where it is asked for.
+fn room_if<'a>(with_room: bool, topology: &'a [u8], script: &'a [u8]) -> Option<RoomTexts<'a>>
+    ensures { result ≡ room_if with_room topology.now script.now }
+{
+    if with_room {
+        Some(RoomTexts::new(topology, script))
+    } else {
+        None
+    }
+}
+
+// The same with the room where it is asked for.
+#[inline(never)]
+fn objects_in<'a>(
+    alloc: Global,
+    edid: Option<Box<Edid>>,
+    with_room: bool,
+    topology: &'a [u8],
+    script: &'a [u8],
+) -> Result<Box<Reporting<'a>>, AllocError>
+    ensures { IfOk result (λ reporting. reporting.value ≡ Objects (option_map (λ b. b.value) edid) (room_if with_room topology.now script.now)) }
+{
+    objects_with(alloc, edid, room_if(with_room, topology, script))
+}
+
+/// Runs a script on a topology, and writes while it runs an object of JSON for each line of the trace, a line each. With the room
+/// stand before them the objects of the topology's lines and of the script's pulses, pulls and levels of the pin, and an event has in
+/// its object the verb, the device and the text of its line of the script.
 ///
 /// # Errors
 ///
@@ -35,23 +68,24 @@ pub fn emulate_objects<S: Sink>(
     alloc: Global,
     topology: &[u8],
     script: &[u8],
+    with_room: bool,
     out: &mut S,
 ) -> Result<Totals, EmulateError>
-    ensures ok { IfOk result (λ totals. (text : List ℕ) × AreObjectsOf topology.now script.now text totals × Appends (S.contents out.old) (S.contents out.new) text) }
+    ensures ok { IfOk result (λ totals. (text : List ℕ) × AreObjectsOf with_room topology.now script.now text totals × Appends (S.contents out.old) (S.contents out.new) text) }
     ensures reported { IfErr result (IsReported topology.now script.now) }
     ensures write { S.is_stuck out.old ≡ false → (IsTrue (is_write result) ↔ IsTrue (S.is_stuck out.new)) }
-    ensures cut { IfErr result (AreObjectsCut topology.now script.now (S.contents out.old) (S.contents out.new)) }
+    ensures cut { IfErr result (AreObjectsCut with_room topology.now script.now (S.contents out.old) (S.contents out.new)) }
 {
-    let topology = parse_topology(alloc, topology)?;
-    let script = parse_script(alloc, &topology, script)?;
-    let edid = root_on_heap(alloc, &topology.edid)?;
-    let Ok(reporting) = objects_with(alloc, edid) else {
+    let plan = parse_topology(alloc, topology)?;
+    let course = parse_script(alloc, &plan, script)?;
+    let edid = root_on_heap(alloc, &plan.edid)?;
+    let Ok(reporting) = objects_in(alloc, edid, with_room, topology, script) else {
         return Err(EmulateError::Memory);
     };
-    let Ok(mut net) = started_net(alloc, topology.tree, &script) else {
+    let Ok(mut net) = started_net(alloc, plan.tree, &course) else {
         return Err(EmulateError::Memory);
     };
-    match run(out, &mut net, &reporting, &script.events, script.end) {
+    match run(out, &mut net, &reporting, &course.events, course.end) {
         Ok(totals) => Ok(totals),
         Err(fault) => Err(EmulateError::Write(fault.count)),
     }

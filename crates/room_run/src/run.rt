@@ -19,6 +19,7 @@ use line_rounds::Wire;
 use line_wire::EdgeWire;
 use room_net::Net;
 use room_script::{Script, TimedEvent};
+use room_trace::RoomTexts;
 use std::alloc::{AllocError, Global};
 use text_core::{Sink, WriteFault};
 
@@ -35,11 +36,11 @@ pub struct Totals {
 
 /// What a run writes.
 #[derive(Drop)]
-pub enum Reporting {
+pub enum Reporting<'a> {
     /// Its trace, with the EDID that ports pass on, where it is given.
     Trace(Option<Edid>),
-    /// The objects of its trace, with the same.
-    Objects(Option<Edid>),
+    /// The objects of its trace, with the same, and where its room is given with those of the room.
+    Objects(Option<Edid>, Option<RoomTexts<'a>>),
     /// Its line, in a format.
     Line(CaptureForm),
 }
@@ -136,7 +137,7 @@ pub fn started_net(
 pub fn run<S: Sink, W: Wire>(
     out: &mut S,
     net: &mut Net<W>,
-    reporting: &Reporting,
+    reporting: &Reporting<'_>,
     events: &[TimedEvent],
     end: u64,
 ) -> Result<Totals, WriteFault>
@@ -152,7 +153,7 @@ pub fn run<S: Sink, W: Wire>(
 {
     match reporting {
         Reporting::Trace(edid) => write_trace(out, net, edid, events, end),
-        Reporting::Objects(edid) => write_objects(out, net, edid, events, end),
+        Reporting::Objects(edid, room) => write_objects(out, net, edid, room, events, end),
         Reporting::Line(format) => write_line(out, net, *format, events, end),
     }
 }

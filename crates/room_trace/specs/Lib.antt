@@ -2,3 +2,4 @@ pub mod StateText
 pub mod TraceText
 pub mod PortText
 pub mod Records
+pub mod Room

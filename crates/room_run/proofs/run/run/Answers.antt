@@ -9,7 +9,7 @@ returns-in-Trace-clause-cut g c =
 
 pub returns-in-Objects-clause-cut : goal.returns-in-Objects-clause-cut
 returns-in-Objects-clause-cut g c =
-    rw c.in-Objects.is (written_cut (IsRunText (Objects c.in-Objects.edid) c.args.end (start c.args.net.now c.args.events.now)) _ _ _ _ c.write_objects.result c.write_objects.ensures)
+    rw c.in-Objects.is (written_cut (IsRunText (Objects c.in-Objects.edid c.in-Objects.room) c.args.end (start c.args.net.now c.args.events.now)) _ _ _ _ c.write_objects.result c.write_objects.ensures)
 
 pub returns-in-Line-clause-cut : goal.returns-in-Line-clause-cut
 returns-in-Line-clause-cut g c =

@@ -1,11 +1,13 @@
-use Rattle.std.proofs.Common.{Some, codes}
-use Rattle.room_trace.specs.Records.{event_cells}
-use Rattle.room_trace.specs.TraceText.{event_line}
-use Rattle.room_trace.proofs.Records.{recorded, same_lines}
+use Rattle.std.proofs.Common.{List, ℕ, ◌∷◌, ◌++◌, [], codes, map, subst}
+use Rattle.text_core.specs.Adds.{Adds}
+use Rattle.record_core.specs.Cells.{both, plain_of}
+use Rattle.record_core.specs.Records.{record_text}
+use Rattle.record_core.specs.Values.{number, text}
 use Rattle.room_trace.proofs.trace_text.add_refused.Goals as goal
 
 pub returns : goal.returns
 returns g c =
-    let error = c.args.error in
-    recorded c.args.form (event_line c.args.at c.args.line (Some error)) (codes "event") (event_cells c.args.at c.args.line (Some error)) c.args.out.now c.add_record.new.out
-    (same_lines.event c.args.at c.args.line (Some error)) (rw c.error_word.ensures at c.add_record.ensures)
+    subst (λ (word : List ℕ). Adds c.args.out.now c.add_record_with.new.out (record_text c.args.form (codes "event") (
+    (both [] (codes "at") (number c.args.at) ∷ both (codes " event ") (codes "script_line") (number c.args.line) ∷ both (codes " ") (codes "verdict") (text (codes "refused"))
+    ∷ both (codes " ") (codes "cause") (text word) ∷ []) ++ map plain_of c.args.more.now)))
+    c.error_word.ensures c.add_record_with.ensures
