@@ -442,7 +442,7 @@ end 9
 => script line 2: word
   line 4 of the input: expect refusd not-for-kind
                               ^^^^^^
-  a line here reads `expect within D of NAME PATTERN`, `expect from T to U PATTERN`, `expect none within D of NAME PATTERN`, `expect none from T to U PATTERN`, `expect once within D of NAME PATTERN`, `expect once from T to U PATTERN`, `expect state T NAME WORD`, `expect refused NAME WORD`, `expect refused WORD`
+  a line here reads `expect within D of NAME PATTERN`, `expect from T to U PATTERN`, `expect none within D of NAME PATTERN`, `expect none from T to U PATTERN`, `expect once within D of NAME PATTERN`, `expect once from T to U PATTERN`, `expect exactly N within D of NAME PATTERN`, `expect exactly N from T to U PATTERN`, `expect at most N within D of NAME PATTERN`, `expect at most N from T to U PATTERN`, `expect at least N within D of NAME PATTERN`, `expect at least N from T to U PATTERN`, `expect state T NAME WORD`, `expect refused NAME WORD`, `expect refused WORD`
   `refusd`: did you mean `refused`?
   words stand one space apart; PATTERN has 1 to 160 bytes, at most four `*` and no space at an end; a label stands before an event, a pulse, a pull, the pin or an expectation
 --
@@ -492,7 +492,7 @@ end 9
   line 3 of the input: expect once from 5 to 09 short
                                              ^^
   `09`: a number has digits alone, and no zero before them: `9`
-  D, T and U are decimal numbers of microseconds; none has a zero before it
+  D, T and U are decimal numbers of microseconds, N is a count; none has a zero before it
 --
 check --explain
 device tv tv 4
@@ -502,7 +502,7 @@ end 9
 => script line 1: number
   line 3 of the input: expect within soon of film short
                                      ^^^^
-  D, T and U are decimal numbers of microseconds; none has a zero before it
+  D, T and U are decimal numbers of microseconds, N is a count; none has a zero before it
 --
 check --explain
 device tv tv 4

@@ -96,7 +96,7 @@ end 9000
   line 5 of the input: expect state 1000000000001 tv on
                                     ^^^^^^^^^^^^^
   `1000000000001` is too large
-  D, T and U are decimal numbers of microseconds; none has a zero before it
+  D, T and U are decimal numbers of microseconds, N is a count; none has a zero before it
 ";
 
 /// Words that are missing, too many, or in another's place.
@@ -234,7 +234,7 @@ end 9000
   line 5 of the input: expect state at 5 tv on
                                     ^^
   the time stands here by itself, without `at`
-  D, T and U are decimal numbers of microseconds; none has a zero before it
+  D, T and U are decimal numbers of microseconds, N is a count; none has a zero before it
 --
 check --explain
 device tv tv 4

@@ -571,7 +571,7 @@ capture
 => expectations line 2: word
   line 2: expect refused a word x
                  ^^^^^^^
-  a line here reads `expect within D of NAME PATTERN`, `expect from T to U PATTERN`, `expect none within D of NAME PATTERN`, `expect none from T to U PATTERN`, `expect once within D of NAME PATTERN`, `expect once from T to U PATTERN`, `expect no-remark`, `expect remark PATTERN`
+  a line here reads `expect within D of NAME PATTERN`, `expect from T to U PATTERN`, `expect none within D of NAME PATTERN`, `expect none from T to U PATTERN`, `expect once within D of NAME PATTERN`, `expect once from T to U PATTERN`, `expect exactly N within D of NAME PATTERN`, `expect exactly N from T to U PATTERN`, `expect at most N within D of NAME PATTERN`, `expect at most N from T to U PATTERN`, `expect at least N within D of NAME PATTERN`, `expect at least N from T to U PATTERN`, `expect no-remark`, `expect remark PATTERN`
   words stand one space apart; PATTERN has 1 to 160 bytes, at most four `*` and no space at an end; a label stands before an event, a pulse, a pull, the pin or an expectation
 --
 check --capture --explain
@@ -581,7 +581,7 @@ capture
 => expectations line 1: word
   line 1: expect state 5 tv tv
                  ^^^^^
-  a line here reads `expect within D of NAME PATTERN`, `expect from T to U PATTERN`, `expect none within D of NAME PATTERN`, `expect none from T to U PATTERN`, `expect once within D of NAME PATTERN`, `expect once from T to U PATTERN`, `expect no-remark`, `expect remark PATTERN`
+  a line here reads `expect within D of NAME PATTERN`, `expect from T to U PATTERN`, `expect none within D of NAME PATTERN`, `expect none from T to U PATTERN`, `expect once within D of NAME PATTERN`, `expect once from T to U PATTERN`, `expect exactly N within D of NAME PATTERN`, `expect exactly N from T to U PATTERN`, `expect at most N within D of NAME PATTERN`, `expect at most N from T to U PATTERN`, `expect at least N within D of NAME PATTERN`, `expect at least N from T to U PATTERN`, `expect no-remark`, `expect remark PATTERN`
   words stand one space apart; PATTERN has 1 to 160 bytes, at most four `*` and no space at an end; a label stands before an event, a pulse, a pull, the pin or an expectation
 --
 check --capture --explain
@@ -591,7 +591,7 @@ capture
 => expectations line 1: word
   line 1: expct within
           ^^^^^
-  a line here reads `expect within D of NAME PATTERN`, `expect from T to U PATTERN`, `expect none within D of NAME PATTERN`, `expect none from T to U PATTERN`, `expect once within D of NAME PATTERN`, `expect once from T to U PATTERN`, `expect no-remark`, `expect remark PATTERN`, `label NAME at T`, `label NAME LINE`
+  a line here reads `expect within D of NAME PATTERN`, `expect from T to U PATTERN`, `expect none within D of NAME PATTERN`, `expect none from T to U PATTERN`, `expect once within D of NAME PATTERN`, `expect once from T to U PATTERN`, `expect exactly N within D of NAME PATTERN`, `expect exactly N from T to U PATTERN`, `expect at most N within D of NAME PATTERN`, `expect at most N from T to U PATTERN`, `expect at least N within D of NAME PATTERN`, `expect at least N from T to U PATTERN`, `expect no-remark`, `expect remark PATTERN`, `label NAME at T`, `label NAME LINE`
   `expct`: did you mean `expect`?
   words stand one space apart; PATTERN has 1 to 160 bytes, at most four `*` and no space at an end; a label stands before an event, a pulse, a pull, the pin or an expectation
 --
@@ -602,7 +602,7 @@ capture
 => expectations line 1: number
   line 1: label a at x
                      ^
-  D, T and U are decimal numbers of microseconds; none has a zero before it
+  D, T and U are decimal numbers of microseconds, N is a count; none has a zero before it
 --
 check --capture --explain
 label a at 5 x

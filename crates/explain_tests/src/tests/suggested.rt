@@ -40,7 +40,19 @@ push|push|`push`: did you mean `* user-control-pressed`?
 /// Other lines of a test, below one with the label `film`.
 const TEST: &str = "\
 expect exactly-one within 60000 of film 4>0|exactly-one|`exactly-one`: did you mean `once`?
-expect exactly once within 60000 of film 4>0|exactly|`exactly once`: did you mean `once`?
+expect exactly once within 60000 of film 4>0|once|`exactly once`: did you mean `once`?
+expect exactly one within 60000 of film 4>0|one|`exactly one`: did you mean `once`?
+expect twice within 60000 of film 4>0|twice|`twice`: did you mean `exactly 2`?
+expect max 6 within 60000 of film 4>0|max|`max`: did you mean `at most`?
+expect at mots 6 within 60000 of film 4>0|mots|`mots`: did you mean `most`?
+expect at least once within 60000 of film 4>0|once|`once`: did you mean `1`?
+expect at least 0 within 60000 of film 4>0|0|`at least 0` is so of all rooms: N is 1 or more
+expect at most 06 within 60000 of film 4>0|06|`06`: a number has digits alone, and no zero before them: `6`
+expect at most 1..6 within 60000 of film 4>0|1..6|a range stands in the place of a time alone
+expect at most 6 within of film 4>0|of|D is missing before this word
+expect at most within 60000 of film 4>0|within|N is missing before this word
+expect exactly from 5 to 9 4>0|from|N is missing before this word
+expect exactly 2 within 60000 of film 4>0 image-view-of|image-view-of|`image-view-of`: did you mean `image-view-on`?
 expect exactly-one 4>0|exactly-one|`exactly-one`: did you mean `once`?
 film: at 2000000 press p1 play|film:|a line here reads `at T press NAME KEY`, `at T release NAME KEY`, `at T plug CHILD PARENT PORT`, `at T unplug CHILD`, `at T send NAME FRAME`, `at T hold NAME ADDRS`, `at T drop NAME`, `pulse T WIDTH`, `pull T WIDTH`, `pin T LEVEL`, `end T`, `label NAME LINE`, `expect within D of NAME PATTERN`, `expect from T to U PATTERN`, `expect state T NAME WORD`, `expect refused NAME WORD`, `expect refused WORD`
 key: at 2000000 press p1 play|key:|`key:`: did you mean `label key`?
