@@ -47,12 +47,7 @@ const OTHER_EXPECTED: &[(&str, &str)] = &[
 ];
 
 /// Words that are written for the number of a count.
-const COUNTS: &[(&str, &str)] = &[
-    ("once", "1"),
-    ("one", "1"),
-    ("twice", "2"),
-    ("two", "2"),
-];
+const COUNTS: &[(&str, &str)] = &[("once", "1"), ("one", "1"), ("twice", "2"), ("two", "2")];
 
 /// The keys of a state line, with the mark after each.
 const STATE_KEYS: &[&str] = &[
@@ -203,7 +198,9 @@ fn of_unmet(draft: &mut Draft, spot: Spot<'_>, word: &str) {
     } else if own.line.starts_with("expect remark ") {
         let _ = add_nearest(draft, spot, REMARKS, word);
     } else {
-        let first = window_start(own.line).saturating_add(4).saturating_add(own.words);
+        let first = window_start(own.line)
+            .saturating_add(4)
+            .saturating_add(own.words);
         add_pattern_meant(draft, spot, first);
     }
 }
