@@ -107,7 +107,8 @@ fn in_state(line: &str) -> Option<Slipped> {
     }
 }
 
-// Of an expectation of rounds that has no number of its count, or no duration, by the number of the word with which its window begins.
+// Of an expectation of rounds without the number of its count, or without a duration, by the number of the word with which its
+// window begins.
 fn in_window(line: &str, start: usize) -> Option<Slipped> {
     let before = start.saturating_sub(1);
     let after = start.saturating_add(1);
