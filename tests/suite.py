@@ -217,6 +217,23 @@ def faults_of_the_wire_are_seen(pool):
     return right
 
 
+def of_attempts(attempts):
+    """Whether a device by pin that sends a frame so often passes `given-up`."""
+    suite = runner.Suite(PROGRAM, "player", 2, 60)
+    suite.frames = FRAMES
+    test = next(test for test in TESTS if test.name == "given-up")
+    return suite.test(test, Here(BitBanged(20, Timing(attempts=attempts)))).holds
+
+
+def attempts_are_counted(pool):
+    """A frame that nobody acknowledges is sent six times at most (CEC 7.1)."""
+    counts = (2, 6, 7, 21)
+    wrong = [attempts for attempts, holds in zip(counts, pool.map(of_attempts, counts)) if holds != (attempts <= 6)]
+    if wrong:
+        print("suite: given-up takes or refuses %s attempts" % wrong)
+    return not wrong
+
+
 class SleepsOver(Reference):
     """Says its name two seconds after it was asked."""
     thinks = 2_000_000
@@ -692,6 +709,7 @@ WHAT = [
     pins_are_exact,
     pins_are_judged,
     faults_of_the_wire_are_seen,
+    attempts_are_counted,
     ill_formed_tests,
     broken_devices,
     programs_are_driven,

@@ -950,6 +950,11 @@ def with_names(r, body, trace):
     return re.sub(r' ([0-9a-f*])>([0-9a-f*])(?= |$)', lambda m: ' %s>%s' % (name(m[1]), name(m[2])), body, count=1)
 
 
+def gen_count(r):
+    """how often a round is expected"""
+    return r.choice(['', '', '', 'none ', 'once '] + [words + ' %d ' % r.choice([0, 1, 1, 2, 2, 3, 5, 9]) for words in ('exactly', 'at most', 'at least')])
+
+
 def gen_expect(r):
     """a run with labels and expectations of its rounds, many at the border of what holds; a part with a line at fault"""
     trace = []
@@ -966,7 +971,7 @@ def gen_expect(r):
 
     def expectation():
         near = r.choice(rounds)
-        body = 'expect %s%s %s' % (r.choice(['', '', 'none ', 'once ']), gen_window(r, rounds, labels, end, near), gen_pattern(r, near))
+        body = 'expect %s%s %s' % (gen_count(r), gen_window(r, rounds, labels, end, near), gen_pattern(r, near))
         if slips and r.random() < .3:
             label, word = r.choice(slips)
             body = 'expect refused %s%s' % (label + ' ' if r.random() < .97 else '', word if r.random() < .8 else r.choice(REFUSALS))
@@ -1014,7 +1019,8 @@ def gen_expect(r):
             lines.insert(i, r.choice(['expect', 'expect ', 'label', 'label ', 'label x', 'label x ', 'label  at 5', 'label x expect', 'expect none', 'expect once', 'expect some from 0 to 1 *', 'expect from 0 to 1', 'expect from 0 to 1 ', 'expect from 0 to 1  ',
                                       'expect from 1 to 0 *', 'expect from 0 to 01 *', 'expect from 0 to 1000000000001 *', 'expect from 0 to 1000000000000 *', 'expect within 5 of nosuch *', 'expect within x of nosuch *', 'expect within 5 of', 'expect within 5 of l1', 'expect within 5 of  *',
                                       'expect from 0 to 18446744073709551615 *', 'expect from 0 to 18446744073709551616 *', 'expect from 0 to 1 * ', 'label y end 5', 'label y # x', 'expect refused', 'expect refused nosuch', 'expect refused off-wire', 'expect refused ', 'expect refused nosuch off-wire', 'expect refused l1 nonsense', 'expect refused l1 off-wire x', 'expect refused e0 off-wire', 'label y label z at 5 press tv power', 'label y expect within 5 of y *', 'label y expect from 0 to 1 * * * * *',
-                                      'expect from 0 to 1 ' + 'x' * 160, 'expect from 0 to 1 ' + 'x' * 161, 'label y expect from 9 to 8 *', 'label l1 expect from 9 to 8 *', 'label y expect within x of nosuch ', 'expect  from 0 to 1 *', ' expect from 0 to 1 *', 'Expect from 0 to 1 *', 'expect once none from 0 to 1 *']))
+                                      'expect from 0 to 1 ' + 'x' * 160, 'expect from 0 to 1 ' + 'x' * 161, 'label y expect from 9 to 8 *', 'label l1 expect from 9 to 8 *', 'label y expect within x of nosuch ', 'expect  from 0 to 1 *', ' expect from 0 to 1 *', 'Expect from 0 to 1 *', 'expect once none from 0 to 1 *', 'expect at', 'expect at most', 'expect at most 2', 'expect at least 0 from 0 to 1 *', 'expect at last 2 from 0 to 1 *', 'expect exactly 02 from 0 to 1 *', 'expect exactly 2 from 0 to 01 *',
+                                      'expect at most x from 0 to 1', 'expect exactly from 0 to 1 *', 'expect at most 18446744073709551615 from 0 to 1 *', 'expect at least 18446744073709551616 from 0 to 1 *', 'expect at most 2..5 from 0 to 1 *', 'label y expect at most 2 within 5 of y *']))
     return ['check'], topology + '\nscript\n' + '\n'.join(lines) + r.choice(['\n', '\n', ''])
 
 
@@ -1087,7 +1093,7 @@ def gen_capture(r):
             out.append('expect remark ' + ' '.join(words))
         else:
             pattern = gen_pattern(r, near)
-            out.append('expect %s%s %s' % (r.choice(['', '', 'none ', 'once ']), gen_window(r, readings, labels, close, near), pattern))
+            out.append('expect %s%s %s' % (gen_count(r), gen_window(r, readings, labels, close, near), pattern))
     if r.random() < .15:
         out.insert(r.randrange(len(out) + 1), r.choice(['', '# a remark', 'expect no-remark ', 'expect no-remark x', 'expect remark', 'expect remark fre', 'expect remark attempt',
             'expect remark * * * * *', 'label b expect no-remark', 'expect refused a off-wire', 'expect state 5 tv on', 'at 5', 'end 10', 'label x', 'label', 'label a0 at 5', 'label  at 5', 'label y at 05']))

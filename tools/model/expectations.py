@@ -52,6 +52,22 @@ class Expectation:
         self.number, self.text, self.label, self.kind = number_, text, label, kind
 
 
+# The words before the number of a count, and the counts that it allows.
+COUNTS = {(b'exactly',): lambda count, n: count == n, (b'at', b'most'): lambda count, n: count <= n, (b'at', b'least'): lambda count, n: count >= n}
+
+
+def count_in(words):
+    """how many of an expectation's words say how often a round is expected, what tells it of a count, and whether a number is none"""
+    if words[:1] in ([b'none'], [b'once']):
+        return 1, lambda count, n=[b'none', b'once'].index(words[0]): count == n, False
+    for front, allows in COUNTS.items():
+        place = len(front)
+        if tuple(words[:place]) == front:
+            n = number(words[place], MOST) if len(words) > place else None
+            return place + 1, lambda count: allows(count, n), n is None or front[-1] == b'least' and n == 0
+    return 0, lambda count: count > 0, False
+
+
 def parse_expectation(n, text, label, body, names, end):
     """the expectation; a list of causes at fault where it is at fault"""
     words = body.split(b' ')
@@ -76,11 +92,8 @@ def parse_expectation(n, text, label, body, names, end):
         if it.at is not None and it.at > end:
             causes.append('order')
         return causes or it
-    it.how = 'some'
-    place = 1
-    if words[1:2] in ([b'none'], [b'once']):
-        it.how = words[1].decode()
-        place = 2
+    counts, it.allows, uncounted = count_in(words[1:])
+    place = counts + 1
     window, pattern = words[place:place + 4], b' '.join(words[place + 4:])
     if len(window) < 4 or not 1 <= len(pattern) <= MOST_PATTERN or pattern.count(b'*') > MOST_STARS or pattern.strip(b' ') != pattern:
         return ['word']
@@ -88,10 +101,10 @@ def parse_expectation(n, text, label, body, names, end):
     strange = any(name.decode('latin1') not in names for name in patterns.names_in(pattern))
     if window[0] == b'within' and window[2] == b'of':
         it.window, it.span, it.of = 'within', number(window[1], MOST), window[3]
-        return ['number'] if it.span is None else ['name'] if strange else it
+        return ['number'] if it.span is None or uncounted else ['name'] if strange else it
     if window[0] == b'from' and window[2] == b'to':
         it.window, it.begin, it.end = 'from', number(window[1], MOST), number(window[3], MOST)
-        if it.begin is None or it.end is None:
+        if it.begin is None or it.end is None or uncounted:
             return ['number']
         it.of = None
         if strange:
@@ -206,7 +219,7 @@ class Judge:
             return False, [b'no instant']
         inside = [r for r in self.rounds if window[0] <= r[0] and r[1] <= window[1]]
         seen = [r for r in inside if meets(it.pattern, told(r[2]))]
-        holds = {'some': len(seen) > 0, 'none': len(seen) == 0, 'once': len(seen) == 1}[it.how]
+        holds = it.allows(len(seen))
         if holds and seen and it.label is not None:
             self.instants[it.label] = seen[0][1]
         return holds, [b'seen %d from %d to %d' % (len(seen), *window)] + [re.sub(rb' @[^ ]*$', b'', r[2]) for r in (seen or inside)[:SHOWN]]

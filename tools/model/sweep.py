@@ -17,7 +17,7 @@ def time_places(words):
         return [first + 1]
     if rest[0] != b'expect':
         return []
-    window = 2 if rest[1:2] in ([b'none'], [b'once']) else 1
+    window = 1 + expectations.count_in(rest[1:])[0]
     word = rest[window:window + 1]
     if word == [b'from']:
         return [first + window + 1] + ([first + window + 3] if rest[window + 2:window + 3] == [b'to'] else [])

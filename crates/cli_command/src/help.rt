@@ -259,6 +259,7 @@ The input is that of `hdminet run`, and its script may also have labels and expe
   expect within D of NAME PATTERN        a round that meets the pattern, D microseconds from a label on
   expect from T to U PATTERN             or between two times
   expect none .., expect once ..         no such round, or exactly one
+  expect exactly N ..                    so many of them; or `expect at most N ..`, `expect at least N ..`
   expect state T NAME WORD ..            at T the device's state line has each of these words
   expect state T NAME not WORD ..        or none of them
   expect refused NAME WORD               the event of this label is refused with the word
@@ -331,7 +332,7 @@ Faults: those of `hdminet run`, and then `script line N: CAUSE` for the first la
 nothing is written then. CAUSE is the first of these that applies:
   word       no such expectation; a pattern of no or more than 160 bytes, with more than four `*`, or with a
              space at an end; after a label no event, pulse, pull, `pin` or expectation
-  number     a number that is none
+  number     a number that is none; `at least 0`, which always holds
   name       a device that the topology does not declare
   label      a label that is empty or stands above already; one that no line above has; for a refusal, one
              that is no event's

@@ -1,19 +1,18 @@
 -- What is found of each line of a script, by the trace and, of each line, the state line that it speaks of (own). Lines count
 -- from 1.
-use Rattle.std.specs.Prelude.{ℕ, ◌+◌, ◌-◌, ◌^◌, ◌==◌, nat_lt, min, ◌||◌, not, codes, Bool, true, false, if◌then◌else◌, length, List, [], ◌∷◌, Option, Some, None, Result, Ok, Err}
+use Rattle.std.specs.Prelude.{ℕ, ◌+◌, ◌-◌, ◌^◌, ◌==◌, min, ◌||◌, not, codes, Bool, true, false, if◌then◌else◌, length, List, [], ◌∷◌, Option, Some, None, Result, Ok, Err}
 use Rattle.std.specs.Str.{bytes_eq}
 use Rattle.std.specs.List.{list_all, list_any}
 use Rattle.text_core.specs.Lines.{lines_of}
 use Rattle.text_core.specs.Words.{words_of}
 use Rattle.expect_text.specs.Line.{onset_in, unlabelled_words}
-use Rattle.expect_text.specs.Form.{ExpectLine, ExpectWindow, form_in}
+use Rattle.expect_text.specs.Form.{ExpectLine, ExpectWindow, form_in, is_allowed}
 use Rattle.expect_text.specs.Form.ExpectLine.{Other, Rounds, State, Refused}
 use Rattle.expect_text.specs.Form.ExpectWindow.{Within, From}
 use Rattle.expect_text.specs.Faults.{line_of_label, event_meant}
 use Rattle.text_core.specs.declared.at.AtWord.{AtWord}
 use Rattle.expect_text.specs.declared.form.ExpectCause.{ExpectCause}
 use Rattle.expect_text.specs.declared.form.Quantity.{Quantity}
-use Rattle.expect_text.specs.declared.form.Quantity.TheVariants.{AtLeastOnce, Never, Once}
 use Rattle.expect_judge.specs.Told.{EventLine, event_at, refusal_in, state_words}
 use Rattle.expect_judge.specs.Named.{is_labelled}
 use Rattle.expect_judge.specs.Seen.{ends_seen, first_of}
@@ -40,16 +39,11 @@ span_of script at (From from to) = Some (record { from = from; to = to })
 
 -- ---- expectations of rounds
 
-abbrev pub holds_by : Quantity → ℕ → Bool
-holds_by AtLeastOnce count = nat_lt 0 count
-holds_by Never count = count == 0
-holds_by Once count = count == 1
-
 -- its instant is the end of the first round that meets it, where it holds
 abbrev pub rounds_by : Quantity → TimeSpan → ℕ → Option ℕ → Judged
 rounds_by quantity span count first = record {
-  holds = Some (holds_by quantity count);
-  at = if holds_by quantity count then first else None;
+  holds = Some (is_allowed quantity count);
+  at = if is_allowed quantity count then first else None;
   span = Some span;
   count = count;
 }

@@ -6,7 +6,7 @@ ghost use Rattle.text_core.specs.Lines.{lines_of};
 ghost use Rattle.text_core.specs.Words.{words_after, words_of};
 ghost use Rattle.expect_text.specs.Form.{window_of};
 ghost use Rattle.expect_judge.specs.Told.{event_as};
-ghost use Rattle.expect_judge.specs.Judged.{event_instant, failure, finding_as, findings_of, first_state, has_word, has_words, holds_by, instant_at, is_of_state, is_state_met, is_word, lacks_words, later_states, line_judged, noted, nothing, or_more, other_judged, refusal_at, refused_judged, rounds_judged, span_from, span_of, state_judged, states_for};
+ghost use Rattle.expect_judge.specs.Judged.{event_instant, failure, finding_as, findings_of, first_state, has_word, has_words, instant_at, is_of_state, is_state_met, is_word, lacks_words, later_states, line_judged, noted, nothing, or_more, other_judged, refusal_at, refused_judged, rounds_judged, span_from, span_of, state_judged, states_for};
 
 use crate::index::Index;
 use crate::named::is_labelled;
@@ -97,16 +97,6 @@ fn span_of(
     }
 }
 
-fn holds_by(quantity: Quantity, count: u64) -> bool
-    ensures { result ≡ holds_by quantity count }
-{
-    match quantity {
-        Quantity::AtLeastOnce => 0 < count,
-        Quantity::Never => count == 0,
-        Quantity::Once => count == 1,
-    }
-}
-
 fn rounds_judged(
     index: &Index<'_>,
     quantity: Quantity,
@@ -119,7 +109,7 @@ fn rounds_judged(
         return failure();
     };
     let seen = index.rounds_seen(span, pattern);
-    let holds = holds_by(quantity, seen.count);
+    let holds = quantity.allows(seen.count);
     Judged {
         holds: Some(holds),
         at: if holds { seen.first } else { None },

@@ -11,7 +11,8 @@ pub fn once_is_some()
     ensures { OnceIsSome }
 {}
 
-/// An expectation of the plain form that holds goes on to hold in a larger span.
+/// An expectation of the plain form, or of at least so many, that holds goes on to hold in a larger span, and one of at most so
+/// many in a smaller one.
 pub fn larger_spans_hold()
     ensures { LargerSpansHold }
 {}

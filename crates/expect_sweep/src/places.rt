@@ -1,6 +1,6 @@
 //! Where times stand in the lines of a script.
 ghost use Rattle.std.specs.Prelude.{◌≡◌, ◌||◌};
-ghost use Rattle.expect_sweep.specs.Places.{after_verb, after_window, is_time, is_time_verb, next_place};
+ghost use Rattle.expect_sweep.specs.Places.{after_expect, after_verb, after_window, is_time, is_time_verb, next_place};
 
 /// What a word of a line is, by the words before it.
 #[derive(Clone, Copy, Debug, PartialEq, Eq)]
@@ -13,6 +13,10 @@ pub(crate) enum WordRole {
     Verb,
     /// The first word after `expect`.
     Expectation,
+    /// The word after `expect at`.
+    Bound,
+    /// The number of a count.
+    Number,
     /// The first word of a window.
     Window,
     /// The time at which a window begins.
@@ -62,12 +66,26 @@ fn after_window(word: &[u8]) -> WordRole
 }
 
 fn after_expect(word: &[u8]) -> WordRole
-    ensures { result ≡ next_place WordRole.Expectation word.now }
+    ensures { result ≡ after_expect word.now }
 {
     if word == b"none".as_slice() || word == b"once".as_slice() {
         WordRole::Window
+    } else if word == b"exactly".as_slice() {
+        WordRole::Number
+    } else if word == b"at".as_slice() {
+        WordRole::Bound
     } else {
         after_window(word)
+    }
+}
+
+fn after_bound(word: &[u8]) -> WordRole
+    ensures { result ≡ next_place WordRole.Bound word.now }
+{
+    if word == b"most".as_slice() || word == b"least".as_slice() {
+        WordRole::Number
+    } else {
+        WordRole::Other
     }
 }
 
@@ -101,6 +119,8 @@ impl WordRole {
             WordRole::Name => WordRole::Verb,
             WordRole::Verb => after_verb(word),
             WordRole::Expectation => after_expect(word),
+            WordRole::Bound => after_bound(word),
+            WordRole::Number => WordRole::Window,
             WordRole::Window => after_window(word),
             WordRole::From => WordRole::To,
             WordRole::To => after_from(word),
@@ -118,6 +138,8 @@ impl WordRole {
             | WordRole::Name
             | WordRole::Verb
             | WordRole::Expectation
+            | WordRole::Bound
+            | WordRole::Number
             | WordRole::Window
             | WordRole::To
             | WordRole::Other => false,

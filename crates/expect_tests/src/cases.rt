@@ -1,8 +1,8 @@
 //! Each row through the public calls.
 use crate::rows::{
-    BELOW, BELOW_REPORT, CUTS, FAULTS, LABELS, LABELS_REPORT, PATTERNS, PLAIN, PULSES,
-    PULSES_REPORT, REFUSALS, REPORT, SCRIPT, STATES, STATES_REPORT, TOPOLOGY, WINDOWS,
-    WINDOWS_REPORT,
+    BELOW, BELOW_REPORT, COUNTS, COUNTS_REPORT, CUTS, FAULTS, LABELS, LABELS_REPORT, PATTERNS,
+    PLAIN, PULSES, PULSES_REPORT, REFUSALS, REPORT, SCRIPT, STATES, STATES_REPORT, TOPOLOGY,
+    WINDOWS, WINDOWS_REPORT,
 };
 use expect_run::{CheckError, Tally, check, verdicts};
 use expect_text::{cut_script, first_fault, fits, plain_script};
@@ -127,6 +127,13 @@ fn rounds_outside_a_window_do_not_count(rt: HostRuntime) {
     let (text, counts) = report_of(&rt, TOPOLOGY, WINDOWS);
     holds(&rt, counts.as_str() == "1 of 4", "counts");
     holds(&rt, text.as_str() == WINDOWS_REPORT, "report");
+}
+
+#[test]
+fn rounds_are_counted(rt: HostRuntime) {
+    let (text, counts) = report_of(&rt, TOPOLOGY, COUNTS);
+    holds(&rt, counts.as_str() == "5 of 12", "counts");
+    holds(&rt, text.as_str() == COUNTS_REPORT, "report");
 }
 
 #[test]

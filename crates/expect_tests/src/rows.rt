@@ -41,6 +41,29 @@ at 5 press p1 play|expect from 1 of => line 2: word at 3
 at 5 press p1 play|expect from 1 to => line 2: word at 4
 at 5 press p1 play|expect never from 1 to 2 short => line 2: word at 1
 at 5 press p1 play|expect never from 1 to 2 *a*b*c*d* => line 2: word at 1
+at 5 press p1 play|expect at most 6 from 1 to 2 short => none
+label a at 5 press p1 play|label b expect at least 1 within 10 of a short => none
+at 5 press p1 play|expect exactly 0 from 1 to 2 short => none
+at 5 press p1 play|expect at most 0 from 1 to 2 short => none
+at 5 press p1 play|expect at most 18446744073709551615 from 1 to 2 short => none
+at 5 press p1 play|expect exactly => line 2: word at 2
+at 5 press p1 play|expect at => line 2: word at 2
+at 5 press p1 play|expect at last 6 from 1 to 2 short => line 2: word at 2
+at 5 press p1 play|expect at most => line 2: word at 3
+at 5 press p1 play|label b expect at least => line 2: word at 5
+at 5 press p1 play|expect at most 6 => line 2: word at 4
+at 5 press p1 play|expect exactly 6 to 1 of 2 short => line 2: word at 3
+at 5 press p1 play|expect at most 6 from 1 to 2 => line 2: word at 8
+at 5 press p1 play|expect at most x from 1 of 2 short => line 2: word at 6
+at 5 press p1 play|expect at most x from 1 to y *a*b*c*d* => line 2: word at 8
+at 5 press p1 play|expect at most x from 1 to y short => line 2: number at 3
+at 5 press p1 play|expect exactly 06 from 2 to 1 short => line 2: number at 2
+at 5 press p1 play|expect at least 0 from 1 to 2 short => line 2: number at 3
+at 5 press p1 play|label b expect at most 18446744073709551616 from 1 to 2 short => line 2: number at 5
+at 5 press p1 play|expect at most 6 from 1 to y short => line 2: number at 7
+at 5 press p1 play|expect at most 6 within 1 of a short => line 2: label at 7
+at 5 press p1 play|expect exactly 6 from 2 to 1 short => line 2: order at 6
+at 5 press p1 play|expect at most 6 from 1 to 2 4>f active_source => line 2: pattern at 9
 at 5 press p1 play|label b expect => line 2: word at 3
 at 5 press p1 play|label b expect never from 1 to 2 short => line 2: word at 3
 at 5 press p1 play|expect refused => line 2: word at 2
@@ -292,6 +315,52 @@ not ok 3 - line 4: expect none from 1000001 to 1167550 4>*
 # 1068400 1167550 complete 4>f active-source 1.0.0.0 ok by p1 out -
 ok 4 - line 5: expect once from 1000000 to 1167549 4>*
 1..4
+";
+
+/// A frame that nobody acknowledges is sent six times (CEC 7.1): its header takes 28,851, and falls again 3 periods after its last
+/// rise, 33,900 after the fall before. What is counted ends with the second attempt, or a microsecond before it, or with the last.
+pub(crate) const COUNTS: &str = "\
+label ask at 1000000 send p1 4>3 give-osd-name
+expect at most 6 within 1000000 of ask silent
+label first expect at least 6 within 198351 of ask silent 0100001101
+expect exactly 5 within 169500 of first silent
+expect at most 2 within 62751 of ask silent
+expect at most 1 within 62751 of ask silent
+expect at least 2 within 62751 of ask silent
+expect at least 2 within 62750 of ask silent
+expect exactly 2 within 62750 of ask silent
+label no expect at most 3 within 1000 of ask short
+expect at most 3 within 5 of no short
+expect exactly 0 from 0 to 2000000 short
+expect at least 3 from 0 to 39150 short
+end 2000000
+";
+
+pub(crate) const COUNTS_REPORT: &str = "\
+TAP version 13
+ok 1 - line 2: expect at most 6 within 1000000 of ask silent
+ok 2 - line 3: label first expect at least 6 within 198351 of ask silent 0100001101
+ok 3 - line 4: expect exactly 5 within 169500 of first silent
+ok 4 - line 5: expect at most 2 within 62751 of ask silent
+not ok 5 - line 6: expect at most 1 within 62751 of ask silent
+# seen 2 from 1000000 to 1062751
+# 1000000 1028851 silent 0100001101 by - out p1@10
+# 1033900 1062751 silent 0100001101 by - out p1@10
+ok 6 - line 7: expect at least 2 within 62751 of ask silent
+not ok 7 - line 8: expect at least 2 within 62750 of ask silent
+# seen 1 from 1000000 to 1062750
+# 1000000 1028851 silent 0100001101 by - out p1@10
+not ok 8 - line 9: expect exactly 2 within 62750 of ask silent
+# seen 1 from 1000000 to 1062750
+# 1000000 1028851 silent 0100001101 by - out p1@10
+ok 9 - line 10: label no expect at most 3 within 1000 of ask short
+not ok 10 - line 11: expect at most 3 within 5 of no short
+# no instant
+ok 11 - line 12: expect exactly 0 from 0 to 2000000 short
+not ok 12 - line 13: expect at least 3 from 0 to 39150 short
+# seen 0 from 0 to 39150
+# 12000 39150 complete 0>0 nack by tv out -
+1..12
 ";
 
 /// An event that waits for the close of the first round, and labels on expectations, of which the last has no instant.

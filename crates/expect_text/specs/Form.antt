@@ -1,5 +1,6 @@
 -- What the line of an expectation says (own): `expect HOW WINDOW PATTERN`, `expect state T DEVICE WORD..`, with `not` before the words or without it, `expect refused NAME WORD`,
--- or `expect refused WORD` below the line of an event, where HOW is nothing, `none` or `once`, and WINDOW is `within D of NAME` or `from T to U`. Times are in microseconds.
+-- or `expect refused WORD` below the line of an event, where HOW is nothing, `none`, `once`, `exactly N`, `at most N` or `at least N`, and WINDOW is `within D of NAME`
+-- or `from T to U`. Times are in microseconds.
 use Rattle.std.specs.Prelude.{◌≡◌, ℕ, ◌+◌, ◌-◌, ◌^◌, ◌≤◌, ◌==◌, nat_lt, nat_le, ◌&&◌, ◌||◌, not, Bool, if◌then◌else◌, codes, length, filter, slice_index, List, [], ◌∷◌, Option, Some, None, Result, Ok, Err}
 use Rattle.std.specs.Option.{option_copied}
 use Rattle.std.specs.Str.{bytes_eq}
@@ -9,9 +10,11 @@ use Rattle.text_core.specs.Words.{words_of, text_of}
 use Rattle.text_core.specs.At.{at_word}
 use Rattle.text_core.specs.declared.at.AtWord.{AtWord}
 use Rattle.expect_text.specs.declared.form.ExpectCause.{ExpectCause}
-use Rattle.expect_text.specs.declared.form.ExpectCause.TheVariants.{Word, Pattern, Number}
+use Rattle.expect_text.specs.declared.form.ExpectCause.TheVariants.{Word, Pattern, Number, Name, Label, Order, Unmet}
+use Rattle.expect_text.specs.declared.form.Bound.{Bound}
+use Rattle.expect_text.specs.declared.form.Bound.TheVariants.{Exactly, AtMost, AtLeast}
 use Rattle.expect_text.specs.declared.form.Quantity.{Quantity}
-use Rattle.expect_text.specs.declared.form.Quantity.TheVariants.{AtLeastOnce, Never, Once}
+use Rattle.expect_text.specs.declared.form.Quantity.TheVariants.{AtLeastOnce, Never, Once, Counted}
 use Rattle.expect_text.specs.declared.form.Parts.{Parts as PartsRead}
 use Rattle.expect_text.specs.declared.form.ExpectWindow.{ExpectWindow as WindowRead}
 use Rattle.expect_text.specs.declared.form.ExpectWindow.TheVariants as windows
@@ -67,6 +70,34 @@ stars text = length (filter (λ b. b == 42) text)
 abbrev pub is_pattern : List ℕ → Bool
 is_pattern text = nat_lt 0 (length text) && nat_le (length text) 160 && nat_le (stars text) 4 && not (is_open_ended text)
 
+-- ---- counts
+
+-- a count is one of those that a number allows
+abbrev pub allows : Bound → ℕ → ℕ → Bool
+allows Exactly number count = count == number
+allows AtMost number count = nat_le count number
+allows AtLeast number count = nat_le number count
+
+-- so many rounds are as many as expected
+abbrev pub is_allowed : Quantity → ℕ → Bool
+is_allowed AtLeastOnce count = allows AtLeast 1 count
+is_allowed Never count = allows Exactly 0 count
+is_allowed Once count = allows Exactly 1 count
+is_allowed (Counted bound number) count = allows bound number count
+
+-- `at least 0` allows every count, and is refused
+abbrev pub count_number : Bound → Option ℕ → Option ℕ
+count_number bound None = None
+count_number Exactly (Some number) = Some number
+count_number AtMost (Some number) = Some number
+count_number AtLeast (Some number) = if number == 0 then None else Some number
+
+-- the number of the word that is a count's number
+abbrev pub number_word : Bound → ℕ
+number_word Exactly = 2
+number_word AtMost = 3
+number_word AtLeast = 3
+
 -- ---- expectations of rounds
 
 -- the number of the word with which a window begins
@@ -74,6 +105,7 @@ abbrev pub window_word : Quantity → ℕ
 window_word AtLeastOnce = 1
 window_word Never = 2
 window_word Once = 2
+window_word (Counted bound number) = number_word bound + 1
 
 abbrev pub in_window : Quantity → ℕ → ExpectCause → AtWord ExpectCause
 in_window quantity after cause = at_word (window_word quantity + after) cause
@@ -130,6 +162,39 @@ rounds_in quantity (kind ∷ words) =
     else if bytes_eq kind (codes "from") then between_by quantity (values_around quantity (codes "to") words)
     else Err (in_window quantity 0 Word)
 
+-- ---- counts of rounds
+
+-- a count without a number, where the rounds after it have this fault, of this cause: those of words and of the pattern come first
+abbrev pub uncounted_by : Bound → AtWord ExpectCause → ExpectCause → AtWord ExpectCause
+uncounted_by bound fault Word = fault
+uncounted_by bound fault Pattern = fault
+uncounted_by bound fault Number = at_word (number_word bound) Number
+uncounted_by bound fault Name = at_word (number_word bound) Number
+uncounted_by bound fault Label = at_word (number_word bound) Number
+uncounted_by bound fault Order = at_word (number_word bound) Number
+uncounted_by bound fault Unmet = at_word (number_word bound) Number
+
+abbrev pub uncounted : Bound → Result ExpectLine (AtWord ExpectCause) → AtWord ExpectCause
+uncounted bound (Ok form) = at_word (number_word bound) Number
+uncounted bound (Err fault) = uncounted_by bound fault fault.cause
+
+abbrev pub counted_by : Bound → Option ℕ → List (List ℕ) → Result ExpectLine (AtWord ExpectCause)
+counted_by bound None words = Err (uncounted bound (rounds_in (Counted bound 0) words))
+counted_by bound (Some number) words = rounds_in (Counted bound number) words
+
+-- a number, and rounds
+abbrev pub counted_in : Bound → List (List ℕ) → Result ExpectLine (AtWord ExpectCause)
+counted_in bound [] = Err (at_word (number_word bound) Word)
+counted_in bound (number ∷ words) = counted_by bound (count_number bound (exact_number number)) words
+
+-- `most N ..` or `least N ..`
+abbrev pub bounded_in : List (List ℕ) → Result ExpectLine (AtWord ExpectCause)
+bounded_in [] = Err (at_word 2 Word)
+bounded_in (word ∷ words) =
+    if bytes_eq word (codes "most") then counted_in AtMost words
+    else if bytes_eq word (codes "least") then counted_in AtLeast words
+    else Err (at_word 2 Word)
+
 -- ---- expectations of states: times as in scripts, at most 1,000,000,000,000 microseconds
 
 -- the number of the first empty word, where the first of these words has this number
@@ -180,6 +245,8 @@ expectation_in (how ∷ words) =
     else if bytes_eq how (codes "state") then state_in words
     else if bytes_eq how (codes "none") then rounds_in Never words
     else if bytes_eq how (codes "once") then rounds_in Once words
+    else if bytes_eq how (codes "exactly") then counted_in Exactly words
+    else if bytes_eq how (codes "at") then bounded_in words
     else rounds_in AtLeastOnce (how ∷ words)
 
 -- what a line says, by its words without the label; a label alone says nothing

@@ -1,15 +1,23 @@
--- Laws of patterns and of words of states (own).
-use Rattle.std.specs.Prelude.{◌≡◌, ℕ, ◌↔◌, Bool, true, false, List, [], ◌++◌, Some, slice_get}
+-- Laws of counts, of patterns and of words of states (own).
+use Rattle.std.specs.Prelude.{◌≡◌, ℕ, ◌+◌, ◌↔◌, ◌&&◌, not, Bool, true, false, List, [], ◌++◌, Some, slice_get}
 use Rattle.line_frames.specs.declared.Ending.{Ending}
 use Rattle.message_text.specs.FrameReading.{is_frame}
 use Rattle.message_text.specs.FrameText.{frame_text}
 use Rattle.message_text.specs.ReadingText.{bits_text, is_broadcast, verdict_by}
+use Rattle.expect_text.specs.declared.form.Bound.TheVariants.{Exactly, AtMost, AtLeast}
+use Rattle.expect_text.specs.declared.form.Quantity.TheVariants.{Counted}
+use Rattle.expect_text.specs.Form.{is_allowed}
 use Rattle.expect_text.specs.Fits.{fits}
 use Rattle.expect_text.specs.Said.{IsSaid, ending_word, endings_of, has_bits, is_said}
 use Rattle.expect_text.specs.Senders.{Judged, IsTail}
 use Rattle.expect_text.specs.Names.{for_names, is_meetable}
 use Rattle.expect_text.specs.StateTest.{is_state_word}
 use Rattle.expect_text.specs.StateWords.{IsStateWord}
+
+-- `at most` a number allows what `at least` one more does not; `exactly` a number what both of these allow of it.
+pub record CountsAreOfBounds : Type 0 where
+  pub most : (number count : ℕ) → is_allowed (Counted AtMost number) count ≡ not (is_allowed (Counted AtLeast (number + 1)) count)
+  pub exactly : (number count : ℕ) → is_allowed (Counted Exactly number) count ≡ (is_allowed (Counted AtMost number) count && is_allowed (Counted AtLeast number) count)
 
 -- A pattern is refused exactly where no text that the line of a round, or of a reading of a capture, can have meets it.
 pub record PatternsAreMet : Type 0 where

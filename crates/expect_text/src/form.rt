@@ -4,7 +4,8 @@ ghost use Rattle.std.specs.Option.{option_copied};
 ghost use Rattle.text_core.specs.Words.{words_after, words_of};
 ghost use Rattle.text_core.specs.Number.{number_of};
 ghost use Rattle.expect_text.specs.Fault.{IsNear};
-ghost use Rattle.expect_text.specs.Form.{AreParts, IsEarly, IsForm, between_by, empty_from, exact_number, expectation_in, form_in, in_window, is_open_ended, lacking, or_lacking, is_pattern, parts_as, pattern_by, pattern_in, refused_in, rounds_between, rounds_in, second_in, stars, state_at_time, state_in, values_around, window_word, within, within_by};
+ghost use Rattle.expect_text.specs.declared.form.Quantity.TheVariants.{Counted};
+ghost use Rattle.expect_text.specs.Form.{AreParts, IsEarly, IsForm, allows, between_by, bounded_in, count_number, counted_by, counted_in, empty_from, exact_number, expectation_in, form_in, in_window, is_allowed, is_open_ended, lacking, or_lacking, is_pattern, number_word, parts_as, pattern_by, pattern_in, refused_in, rounds_between, rounds_in, second_in, stars, state_at_time, state_in, uncounted, uncounted_by, values_around, window_word, within, within_by};
 
 use line_wave::LATEST_EVENT;
 use text_core::{AtWord, at_word, byte_at, first_word, number_in};
@@ -20,7 +21,7 @@ pub enum ExpectCause {
     /// A pattern of no bytes or of more than 160, with more than four `*`, or with a space at an end.
     #[error("word")]
     Pattern,
-    /// No number, one past 18,446,744,073,709,551,615, or a state's time past 1,000,000,000,000.
+    /// No number, one past 18,446,744,073,709,551,615, `at least 0`, or a state's time past 1,000,000,000,000.
     #[error("number")]
     Number,
     /// A device that the topology does not declare.
@@ -44,12 +45,51 @@ const PATTERN_MOST: usize = 160;
 /// The most `*` of a pattern.
 const STARS_MOST: usize = 4;
 
-/// How often a round is expected.
+/// Which counts a number allows.
+#[derive(Clone, Copy, Debug, PartialEq, Eq)]
+pub enum Bound {
+    Exactly,
+    AtMost,
+    AtLeast,
+}
+
+/// How many rounds are expected.
 #[derive(Clone, Copy, Debug, PartialEq, Eq)]
 pub enum Quantity {
+    /// No word says it.
     AtLeastOnce,
+    /// `none`.
     Never,
+    /// `once`.
     Once,
+    /// `exactly N`, `at most N` or `at least N`.
+    Counted { bound: Bound, number: u64 },
+}
+
+impl Bound {
+    fn allows(self, number: u64, count: u64) -> bool
+        ensures { result ≡ allows self number count }
+    {
+        match self {
+            Bound::Exactly => count == number,
+            Bound::AtMost => count <= number,
+            Bound::AtLeast => number <= count,
+        }
+    }
+}
+
+impl Quantity {
+    /// Whether so many rounds are as many as expected.
+    pub fn allows(self, count: u64) -> bool
+        ensures { result ≡ is_allowed self count }
+    {
+        match self {
+            Quantity::AtLeastOnce => Bound::AtLeast.allows(1, count),
+            Quantity::Never => Bound::Exactly.allows(0, count),
+            Quantity::Once => Bound::Exactly.allows(1, count),
+            Quantity::Counted { bound, number } => bound.allows(number, count),
+        }
+    }
 }
 
 /// The time in which rounds are looked at, in microseconds.
@@ -93,15 +133,28 @@ struct Parts<'a> {
     pattern: &'a [u8],
 }
 
+// The number of the word that is a count's number.
+fn number_word(bound: Bound) -> usize
+    ensures value { result ≡ number_word bound }
+    ensures few { result ≤ 3 }
+{
+    match bound {
+        Bound::Exactly => 2,
+        Bound::AtMost => 3,
+        Bound::AtLeast => 3,
+    }
+}
+
 // The number of the word with which the window of an expectation begins.
 fn window_word(quantity: Quantity) -> usize
     ensures value { result ≡ window_word quantity }
-    ensures few { result ≤ 2 }
+    ensures few { result ≤ 4 }
 {
     match quantity {
         Quantity::AtLeastOnce => 1,
         Quantity::Never => 2,
         Quantity::Once => 2,
+        Quantity::Counted { bound, .. } => number_word(bound) + 1,
     }
 }
 
@@ -316,6 +369,93 @@ fn rounds_in<'a>(
     }
 }
 
+// The number of a count; `at least 0` holds of every window, and is none.
+fn count_number(bound: Bound, word: &[u8]) -> Option<u64>
+    ensures { result ≡ count_number bound (exact_number word.now) }
+{
+    let number = exact_number(word)?;
+    match bound {
+        Bound::Exactly | Bound::AtMost => Some(number),
+        Bound::AtLeast => { if number == 0 { None } else { Some(number) } }
+    }
+}
+
+// The fault of a count that has no number, by that of the rounds after it: those of words and of the pattern come first.
+fn uncounted_by(bound: Bound, fault: AtWord<ExpectCause>) -> AtWord<ExpectCause>
+    requires near { IsNear fault }
+    ensures value { result ≡ uncounted_by bound fault fault.cause }
+    ensures bounded { IsNear result }
+{
+    match fault.cause {
+        ExpectCause::Word | ExpectCause::Pattern => fault,
+        ExpectCause::Number
+        | ExpectCause::Name
+        | ExpectCause::Label
+        | ExpectCause::Order
+        | ExpectCause::Unmet => at_word(number_word(bound), ExpectCause::Number),
+    }
+}
+
+fn uncounted(bound: Bound, rest: Option<&[u8]>) -> AtWord<ExpectCause>
+    ensures value { result ≡ uncounted bound (rounds_in (Counted bound 0) (words_after (option_copied rest.entry))) }
+    ensures bounded { IsNear result }
+{
+    match rounds_in(Quantity::Counted { bound, number: 0 }, rest) {
+        Ok(_) => at_word(number_word(bound), ExpectCause::Number),
+        Err(fault) => uncounted_by(bound, fault),
+    }
+}
+
+fn counted_by<'a>(
+    bound: Bound,
+    number: Option<u64>,
+    rest: Option<&'a [u8]>,
+) -> Result<ExpectLine<'a>, AtWord<ExpectCause>>
+    ensures form { IsForm (counted_by bound number (words_after (option_copied rest.entry))) result }
+    ensures early { IfOk result IsEarly }
+    ensures bounded { IfErr result IsNear }
+{
+    match number {
+        None => Err(uncounted(bound, rest)),
+        Some(number) => rounds_in(Quantity::Counted { bound, number }, rest),
+    }
+}
+
+// What stands after the words of a count: its number, and rounds.
+fn counted_in<'a>(
+    bound: Bound,
+    rest: Option<&'a [u8]>,
+) -> Result<ExpectLine<'a>, AtWord<ExpectCause>>
+    ensures form { IsForm (counted_in bound (words_after (option_copied rest.entry))) result }
+    ensures early { IfOk result IsEarly }
+    ensures bounded { IfErr result IsNear }
+{
+    let Some(text) = rest else {
+        return Err(at_word(number_word(bound), ExpectCause::Word));
+    };
+    let (number, others) = first_word(text);
+    counted_by(bound, count_number(bound, number), others)
+}
+
+// What stands after `at`.
+fn bounded_in<'a>(rest: Option<&'a [u8]>) -> Result<ExpectLine<'a>, AtWord<ExpectCause>>
+    ensures form { IsForm (bounded_in (words_after (option_copied rest.entry))) result }
+    ensures early { IfOk result IsEarly }
+    ensures bounded { IfErr result IsNear }
+{
+    let Some(text) = rest else {
+        return Err(at_word(2, ExpectCause::Word));
+    };
+    let (word, others) = first_word(text);
+    if word == b"most".as_slice() {
+        counted_in(Bound::AtMost, others)
+    } else if word == b"least".as_slice() {
+        counted_in(Bound::AtLeast, others)
+    } else {
+        Err(at_word(2, ExpectCause::Word))
+    }
+}
+
 // The number of the first empty word of a state, of which the first has the number 4.
 #[tactic(auto, using(crate::proofs::Parted::few_words))]
 fn first_empty(text: &[u8]) -> Option<usize>
@@ -459,6 +599,10 @@ fn expectation_in<'a>(rest: Option<&'a [u8]>) -> Result<ExpectLine<'a>, AtWord<E
         rounds_in(Quantity::Never, others)
     } else if how == b"once".as_slice() {
         rounds_in(Quantity::Once, others)
+    } else if how == b"exactly".as_slice() {
+        counted_in(Bound::Exactly, others)
+    } else if how == b"at".as_slice() {
+        bounded_in(others)
     } else {
         rounds_in(Quantity::AtLeastOnce, Some(text))
     }

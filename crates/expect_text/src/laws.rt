@@ -1,11 +1,16 @@
-//! Laws of patterns and of words of states.
+//! Laws of counts, of patterns and of words of states.
 ghost use Rattle.std.specs.Prelude.{◌≡◌, ◌+◌, ◌<◌, ℕ, List, [], ◌∷◌, if◌then◌else◌, nat_lt, true};
 ghost use Rattle.std.specs.List.{flat_map, list_all};
 ghost use Rattle.text_core.specs.Bytes.{are_bytes};
 ghost use Rattle.text_core.specs.Piece.{hex_text};
 ghost use Rattle.expect_text.specs.Parts.{has};
 ghost use Rattle.expect_text.specs.declared.part.Class.TheVariants.{Hex};
-ghost use Rattle.expect_text.specs.Laws.{NamesAreMet, PatternsAreMet, ReadingsAreSaid, StateWordsAreMet};
+ghost use Rattle.expect_text.specs.Laws.{CountsAreOfBounds, NamesAreMet, PatternsAreMet, ReadingsAreSaid, StateWordsAreMet};
+
+/// `at most` a number allows what `at least` one more does not; `exactly` a number what both of these allow of it.
+pub fn counts_are_of_bounds()
+    ensures { CountsAreOfBounds }
+{}
 
 /// A pattern is refused exactly where no text that the line of a round can have meets it.
 pub fn patterns_are_met()

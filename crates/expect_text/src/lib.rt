@@ -19,12 +19,12 @@ mod state_words;
 pub use fault::after_label;
 pub use faults::{fault_among, first_fault, readings_fault};
 pub use form::{
-    ExpectCause, ExpectLine, ExpectWindow, Quantity, exact_number, form_in, is_pattern,
+    Bound, ExpectCause, ExpectLine, ExpectWindow, Quantity, exact_number, form_in, is_pattern,
 };
 pub use labels::Labels;
 pub use laws::{
-    hex_is_written_in_its_class, names_are_met, patterns_are_met, readings_are_said,
-    state_words_are_met,
+    counts_are_of_bounds, hex_is_written_in_its_class, names_are_met, patterns_are_met,
+    readings_are_said, state_words_are_met,
 };
 pub use line::{Labelled, cut_script, has_verb, onset_in, plain_part, plain_script, unlabelled};
 pub use named::NamedPattern;

@@ -70,7 +70,7 @@ fn of_expectation(cause: ExpectCause) -> &'static str {
             "words stand one space apart; PATTERN has 1 to 160 bytes, at most four `*` and no space at an end; a label stands before an event, a pulse, a pull, the pin or an expectation"
         }
         ExpectCause::Number => {
-            "D, T and U are decimal numbers of microseconds; none has a zero before it"
+            "D, T and U are decimal numbers of microseconds, N is a count; none has a zero before it"
         }
         ExpectCause::Name => "a line of the topology declares the device",
         ExpectCause::Label => {

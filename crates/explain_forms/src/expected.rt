@@ -9,7 +9,7 @@ use explain_again::{Spot, is_taken};
 use explain_lists::{Draft, word_count};
 use explain_marks::{
     InputLine, REFUSALS, REMARKS, forms_of, is_line_end, is_word, labelled_by, wanted_at,
-    without_label,
+    window_start, without_label,
 };
 use explain_near::{
     add_enclosed, add_near, add_nearest, add_number, add_other, add_suggestion, is_near,
@@ -22,7 +22,6 @@ const OTHER_EXPECTED: &[(&str, &str)] = &[
     ("no", "none"),
     ("not", "none"),
     ("zero", "none"),
-    ("exactly", "once"),
     ("exactly-one", "once"),
     ("exactly-once", "once"),
     ("just-one", "once"),
@@ -30,6 +29,15 @@ const OTHER_EXPECTED: &[(&str, &str)] = &[
     ("only-once", "once"),
     ("one", "once"),
     ("single", "once"),
+    ("twice", "exactly 2"),
+    ("most", "at most"),
+    ("at-most", "at most"),
+    ("max", "at most"),
+    ("maximum", "at most"),
+    ("least", "at least"),
+    ("at-least", "at least"),
+    ("min", "at least"),
+    ("minimum", "at least"),
     ("during", "within"),
     ("between", "from"),
     ("after", "of"),
@@ -37,6 +45,9 @@ const OTHER_EXPECTED: &[(&str, &str)] = &[
     ("until", "to"),
     ("and", "to"),
 ];
+
+/// Words that are written for the number of a count.
+const COUNTS: &[(&str, &str)] = &[("once", "1"), ("one", "1"), ("twice", "2"), ("two", "2")];
 
 /// The keys of a state line, with the mark after each.
 const STATE_KEYS: &[&str] = &[
@@ -177,15 +188,6 @@ fn of_state_word(draft: &mut Draft, spot: Spot<'_>, word: &str) {
     }
 }
 
-// The number of the word with which the pattern of a line without its label begins.
-fn pattern_start(own: &str) -> usize {
-    if is_word(own, 1, "none") || is_word(own, 1, "once") {
-        6
-    } else {
-        5
-    }
-}
-
 // What a word may have been meant for that nothing meets.
 fn of_unmet(draft: &mut Draft, spot: Spot<'_>, word: &str) {
     let own = without_label(spot.at.text);
@@ -196,7 +198,9 @@ fn of_unmet(draft: &mut Draft, spot: Spot<'_>, word: &str) {
     } else if own.line.starts_with("expect remark ") {
         let _ = add_nearest(draft, spot, REMARKS, word);
     } else {
-        let first = pattern_start(own.line).saturating_add(own.words);
+        let first = window_start(own.line)
+            .saturating_add(4)
+            .saturating_add(own.words);
         add_pattern_meant(draft, spot, first);
     }
 }
@@ -221,13 +225,35 @@ fn add_wanted(draft: &mut Draft, spot: Spot<'_>) {
 // `once`, where a word stands before it that says the same. Returns whether it does.
 fn add_once(draft: &mut Draft, spot: Spot<'_>, word: &str) -> bool {
     let words = match (word, spot.after(1).text()) {
-        ("exactly", "once") => "exactly once",
-        ("exactly", "one") => "exactly one",
         ("just", "once") => "just once",
         ("only", "once") => "only once",
         _ => return false,
     };
     add_suggestion(draft, spot, "once", words)
+}
+
+// Whether a word stands in the place of a count's number.
+fn is_count(spot: Spot<'_>) -> bool {
+    let own = without_label(spot.at.text);
+    let place = spot.word.saturating_sub(own.words);
+    place >= 2 && window_start(own.line) == place.saturating_add(1)
+}
+
+// What a word may have been meant for that is no number of a count.
+fn of_count(draft: &mut Draft, spot: Spot<'_>, word: &str) {
+    let before = spot.moved_to(spot.word.saturating_sub(1));
+    let is_said = match (before.text(), word) {
+        ("exactly", "once") => add_suggestion(draft, before, "once", "exactly once"),
+        ("exactly", "one") => add_suggestion(draft, before, "once", "exactly one"),
+        ("least", "0") => {
+            draft.add_line("`at least 0` is so of all rooms: N is 1 or more");
+            true
+        }
+        _ => add_other(draft, spot, COUNTS, word) || add_range(draft, spot, word, false),
+    };
+    if !is_said {
+        add_number(draft, spot, word);
+    }
 }
 
 // What a word that may not stand there may have been meant for, or the word that is missing before it.
@@ -249,7 +275,9 @@ pub fn add_expected_meant(draft: &mut Draft, cause: ExpectCause, spot: Spot<'_>)
         ExpectCause::Label => of_label(draft, spot, word),
         ExpectCause::Name => add_header_name_meant(draft, spot, word),
         ExpectCause::Number => {
-            if !add_range(draft, spot, word, true) {
+            if is_count(spot) {
+                of_count(draft, spot, word);
+            } else if !add_range(draft, spot, word, true) {
                 add_number(draft, spot, word);
             }
         }

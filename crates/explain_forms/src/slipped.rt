@@ -9,6 +9,7 @@ pub fn add_slip(draft: &mut Draft, slip: WordSlip) {
         WordSlip::StrayAt => draft.add_line("the time stands here by itself, without `at`"),
         WordSlip::NoTime => draft.add_line("T is missing before this word"),
         WordSlip::NoDuration => draft.add_line("D is missing before this word"),
+        WordSlip::NoCount => draft.add_line("N is missing before this word"),
         WordSlip::NoName => draft.add_line("NAME is missing before this word"),
         WordSlip::PortsFirst => {
             draft.add_line("KIND stands before PORTS, as `device tv tv 4`");

@@ -2,6 +2,7 @@
 use crate::fault::Input;
 use crate::grammar::{CAPTURE_EXPECTATIONS, EXPECTATIONS};
 use crate::marks::{Mark, is_word};
+use explain_lists::word_at;
 
 /// A line without its label, and how many words that takes.
 #[derive(Clone, Copy)]
@@ -46,6 +47,16 @@ pub fn label_words(what: Input, line: &str) -> usize {
 pub fn labelled_by(line: &[u8]) -> Option<&str> {
     let (name, _) = label_of(str::from_utf8(line).ok()?)?;
     Some(name)
+}
+
+/// The number of the word with which the window of an expectation of rounds begins, by its line without a label.
+pub fn window_start(line: &str) -> usize {
+    match word_at(line, 1) {
+        Some("none" | "once") => 2,
+        Some("exactly") => 3,
+        Some("at") => 4,
+        _ => 1,
+    }
 }
 
 /// The forms of the lines of expectations, of a script or of a capture.

@@ -36,12 +36,18 @@ const OF_ROUNDS: &[&str] = &[
     "expect from T to U PATTERN",
 ];
 
-// No such round, or exactly one.
+// No such round, exactly one, or a number of them.
 const OF_COUNTS: &[&str] = &[
     "expect none within D of NAME PATTERN",
     "expect none from T to U PATTERN",
     "expect once within D of NAME PATTERN",
     "expect once from T to U PATTERN",
+    "expect exactly N within D of NAME PATTERN",
+    "expect exactly N from T to U PATTERN",
+    "expect at most N within D of NAME PATTERN",
+    "expect at most N from T to U PATTERN",
+    "expect at least N within D of NAME PATTERN",
+    "expect at least N from T to U PATTERN",
 ];
 
 // What the script of a test has besides these.

@@ -11,7 +11,9 @@ mod marks;
 mod place;
 mod slips;
 
-pub use expectations::{as_form, forms_of, label_words, labelled_by, plain, without_label};
+pub use expectations::{
+    as_form, forms_of, label_words, labelled_by, plain, window_start, without_label,
+};
 pub use fault::{Input, InputFault, Parting, WholeFault};
 pub use grammar::{
     EXPECTATIONS, LAID, NETWORK, REFUSALS, REMARKS, SCRIPT, SESSION, SESSION_ALONE, STEPS, TEST,

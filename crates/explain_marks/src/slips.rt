@@ -1,5 +1,5 @@
 //! Slips that make another word of a line at fault than the one that was written wrong.
-use crate::expectations::without_label;
+use crate::expectations::{window_start, without_label};
 use crate::fault::InputFault;
 use crate::grammar::REFUSALS;
 use crate::marks::{Mark, is_word};
@@ -22,6 +22,8 @@ pub enum WordSlip {
     KeyFirst,
     /// The duration is missing.
     NoDuration,
+    /// The number of a count is missing.
+    NoCount,
     /// The name of a label is missing.
     NoName,
     /// The count of ports stands before the kind.
@@ -105,10 +107,14 @@ fn in_state(line: &str) -> Option<Slipped> {
     }
 }
 
-// Of an expectation of rounds that has no duration, by the number of the word `within`.
-fn in_window(line: &str, within: usize) -> Option<Slipped> {
-    let after = within.saturating_add(1);
-    if is_word(line, after, "of") {
+// Of an expectation of rounds without the number of its count, or without a duration, by the number of the word with which its
+// window begins.
+fn in_window(line: &str, start: usize) -> Option<Slipped> {
+    let before = start.saturating_sub(1);
+    let after = start.saturating_add(1);
+    if is_word(line, before, "within") || is_word(line, before, "from") {
+        at_words(WordSlip::NoCount, before, before)
+    } else if is_word(line, start, "within") && is_word(line, after, "of") {
         at_words(WordSlip::NoDuration, after, after)
     } else {
         None
@@ -126,12 +132,10 @@ fn in_refusal(line: &str) -> Option<Slipped> {
 }
 
 fn in_expected(line: &str) -> Option<Slipped> {
-    match (word_at(line, 1), word_at(line, 2)) {
-        (Some("state"), _) => in_state(line),
-        (Some("refused"), _) => in_refusal(line),
-        (Some("within"), _) => in_window(line, 1),
-        (Some("none" | "once"), Some("within")) => in_window(line, 2),
-        _ => None,
+    match word_at(line, 1) {
+        Some("state") => in_state(line),
+        Some("refused") => in_refusal(line),
+        _ => in_window(line, window_start(line)),
     }
 }
 

@@ -74,7 +74,7 @@ fn report_of(
 #[test]
 fn readings_are_judged(rt: HostRuntime) {
     let (text, counts) = report_of(&rt, EXPECTED, &captured(&rt, FRAMES));
-    holds(&rt, counts.as_str() == "3 of 7", "counts");
+    holds(&rt, counts.as_str() == "3 of 9", "counts");
     holds(&rt, text.as_str() == REPORT, "report");
 }
 

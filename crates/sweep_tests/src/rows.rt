@@ -15,6 +15,11 @@ label a at 11990..12002/3 press tv mute|expect within 27155 of a 0>0|end 60000 =
 at 5..7 press tv eject|expect from 0 to 50000 0>0|end 60000 => not: 5..7 ok not-ok|
 at 5..7 press tv mute|end 10 => all: 5..7|
 label g pulse 300000..300002 10|expect none within 100 of g 0>0|end 400000 => all: 300000..300002 ok|
+expect at most 1 from 11995..12004 to 50000 0>0|end 60000 => all: 11995..12004 ok|
+expect exactly 0 from 11995..12004 to 50000 0>0|end 60000 => not: 11995..12000 not-ok|12001..12004 ok|
+label a at 7 press tv mute|expect at least 1 within 39140..39145 of a 0>0|end 60000 => not: 39140..39142 not-ok|39143..39145 ok|
+expect exactly 1..2 from 0 to 9 short|end 60000 => no range
+expect at last 1 from 0..9 to 9 short|end 60000 => no range
 at 5 press tv mute|end 10 => no range
 label 5..7 at 5 press tv mute|end 10 => no range
 at 5.7 press tv mute|end 10 => no range
@@ -50,6 +55,7 @@ at 5..7 press tv mute|pulse 9..x 10|end 10 => script line 2: number in word 1
 at 7..5 press tv mute|end x..9 => script line 1: order in word 1
 expect from 3..4 to 5..6 short|end 10 => script line 1: range in word 4
 expect once within 3..2 of a short|end 10 => script line 1: order in word 3
+expect at most 1 within 3..2 of a short|end 10 => script line 1: order in word 5
 expect state 3..2 tv on|end 10 => script line 1: order in word 2
 at 5..12 press tv mute|end 10 => script line 1: order with line 2 in word 1
 at 5..10 press tv mute|end 10 => script line 1: order with line 2 in word 1
@@ -250,6 +256,8 @@ label late at 100001
 expect within 100000 of late 4>0
 expect once from 300000 to 310000 open
 expect none within 400000 of boot 4>0 image-view-on
+expect at most 2 within 400000 of boot *>0
+expect exactly 3 from 0 to 310000 *
 ";
 
 pub(crate) const REPORT: &str = "\
@@ -265,5 +273,7 @@ ok 6 - line 8: expect once from 300000 to 310000 open
 not ok 7 - line 9: expect none within 400000 of boot 4>0 image-view-on
 # seen 1 from 0 to 400000
 # 100000 151150 complete 4>0 image-view-on ack
-1..7
+ok 8 - line 10: expect at most 2 within 400000 of boot *>0
+ok 9 - line 11: expect exactly 3 from 0 to 310000 *
+1..9
 ";
