@@ -90,6 +90,14 @@ check "a link to check-room finds it too, and its status is that of check" ended
 start "$top/tools/check-room" "$top/examples/film.test"
 check "the check-room of a checkout finds the program there" ended 0
 
+start "$dir/bin/check-room" "$top/examples/race.sweep"
+check "check-room has a test for each stretch of a sweep" [ "$(cat "$room/out")" = $'TAP version 13\nnot ok 1 - 4840000..4931550\n# test 1 fails\nnot ok 2 - 4931600..4945250\n# test 2 fails\nnot ok 3 - 4945300..4999950\n# test 1 fails\n# test 2 fails\nnot ok 4 - 5000000..5000000\n# test 2 fails\n1..4' ]
+check "with the status of check" ended 1
+sed 's/4840000.*50 press/4840000..4850000\/5000 press/; /60000 of key/d' "$top/examples/race.sweep" > "$room/elsewhere/holds.sweep"
+start "$dir/bin/check-room" "$room/elsewhere/holds.sweep"
+check "one that holds is ok" [ "$(cat "$room/out")" = $'TAP version 13\nok 1 - 4840000..4850000\n1..1' ]
+check "with status 0" ended 0
+
 # A room without a script, and a test that is only a script; the room's last line has no line feed.
 printf '# one television\ndevice tv tv 1' > "$room/elsewhere/one.room"
 printf '# the poll\nexpect once from 0 to 60000 0>0 nack\nend 200000\n' > "$room/elsewhere/poll=.test"
@@ -116,6 +124,8 @@ if command -v prove > /dev/null; then
   check "prove takes check-room by its name" ended 0
   start env PATH="$dir/bin:$PATH" prove -e check-room "$top/examples/film.test" "$top/examples/wrong-film.test"
   check "and fails where a test does" [ "$status" != 0 ]
+  start env PATH="$dir/bin:$PATH" prove -v -e check-room "$room/elsewhere/holds.sweep" "$top/examples/film.test"
+  check "and takes the stretches of a sweep as tests" grep -q 'Files=2, Tests=5' "$room/out"
   start env PATH="$dir/bin:$PATH" prove -e 'check-room one.room' poll=.test
   check "prove takes check-room with a room" ended 0
   # Ten tests of a room, each of whose lines holds, and beside it one that does not (docs/testing.md); `\n` for a line feed.

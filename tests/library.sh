@@ -46,6 +46,30 @@ if [ -z "$run" ]; then
   line "follower.c, whose interrupts are 700 late, breaks the frame" follows 700 'short 010010000 by p1 out -'
 fi
 
+# A library of another major version, or with none, is refused by its version; one of this major version is taken.
+of_version() {
+  local number=$1 said=$2
+  echo "unsigned hdminet_version(void) { return $number; }" > "$room/version.c"
+  [ -n "$number" ] || echo 'unsigned hdminet_other(void) { return 0; }' > "$room/version.c"
+  $cc -shared -fPIC -o "$room/version.so" "$room/version.c" &&
+    [ "$(HDMINET_LIBRARY="$room/version.so" PYTHONDONTWRITEBYTECODE=1 PYTHONPATH="$top/python" python3 - 2>&1 << 'PY'
+try:
+    import hdminet
+except ImportError as old:
+    print("%s: %s" % (type(old).__name__, str(old).rpartition(" has ")[2]))
+else:
+    print(hdminet.library_version())
+PY
+    )" = "$said" ]
+}
+if [ -z "$run" ]; then
+  here=$(sed -n 's/^#define HDMINET_VERSION //p' "$top/include/hdminet_wire.h")
+  for number in '' 999 2000 1999999; do
+    line "a library of version ${number:-0} is refused" of_version "$number" "OldLibrary: version ${number:-0}, and this module is of version $here"
+  done
+  line "one of a greater minor version is taken" of_version 1999 1999
+fi
+
 # A checkout with the two crates of exports, and one below them.
 make_checkout() {
   local here=$room/checkout crate

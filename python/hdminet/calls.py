@@ -137,7 +137,7 @@ def _load() -> Any:
 
 
 class OldLibrary(ImportError):
-    """The library at hand has another major version than this module, or lacks a call of it."""
+    """The library at hand has another major version than this module."""
 
 
 def library_version() -> int:
@@ -146,7 +146,7 @@ def library_version() -> int:
 
 
 _library = _load()
-if library_version() // 1000 > VERSION // 1000:
+if library_version() // 1000 != VERSION // 1000:
     raise OldLibrary("%s has version %d, and this module is of version %d" % (_library._name, library_version(), VERSION))
 for _name, (_result, _parameters) in _CALLS.items():
     if hasattr(_library, _name):
