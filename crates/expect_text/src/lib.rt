@@ -22,10 +22,7 @@ pub use form::{
     ExpectCause, ExpectLine, ExpectWindow, Quantity, exact_number, form_in, is_pattern,
 };
 pub use labels::Labels;
-pub use laws::{
-    hex_is_written_in_its_class, names_are_met, patterns_are_met, readings_are_said,
-    state_words_are_met,
-};
+pub use laws::{hex_is_written_in_its_class, names_are_met, patterns_are_met, state_words_are_met};
 pub use line::{Labelled, cut_script, has_verb, onset_in, plain_part, plain_script, unlabelled};
 pub use named::NamedPattern;
 pub use names::{has_names, is_meetable, meets, named_in};
