@@ -6,6 +6,7 @@ use Rattle.std.specs.List.{All, cons_option, filter_map, flat_map}
 use Rattle.line_wave.specs.Bounds.{latest_event}
 use Rattle.line_wave.specs.Line.{line_of}
 use Rattle.line_frames.specs.declared.Reading.{Reading}
+use Rattle.line_rounds.specs.Alone.{outcome_listed}
 use Rattle.line_rounds.specs.declared.Outcome.{Outcome}
 use Rattle.line_rounds.proofs.Bounds.{rounds_are_short}
 use Rattle.text_core.specs.Lines.{lines_of}
@@ -16,7 +17,7 @@ use Rattle.audit_core.proofs.OneLine.{plain_reading}
 use Rattle.device_core.specs.State.{State}
 use Rattle.capture_monitor.specs.Watch.{as_file, file_readings, readings_text}
 use Rattle.capture_laws.proofs.Formats.{lines_of_runs_have_their_readings}
-use Rattle.capture_laws.proofs.ReadBack.{lines_of_rounds, over_by_script}
+use Rattle.capture_laws.proofs.ReadBack.{over_by_script}
 use Rattle.room_net.specs.State.{first_net}
 use Rattle.room_script.proofs.Sound.{scripts_are_sound}
 use Rattle.room_trace.specs.TraceText.{comma_list, loser_text, name_at}
@@ -28,8 +29,7 @@ use Rattle.room_run.specs.OneRun.{rounds_of_line}
 use Rattle.room_run.proofs.Advance.{round_begins}
 use Rattle.room_run.proofs.OneRun.{texts_have_one_run}
 use Rattle.expect_text.specs.Fits.{fits}
-use Rattle.expect_text.specs.Names.{holds_in, last_word, meets, named_in}
-use Rattle.expect_text.proofs.Naming.{names_none}
+use Rattle.expect_text.specs.Names.{for_first, for_name, for_names, holds_in, last_word, meets, named_in}
 use Rattle.expect_judge.specs.Seen.{end_by}
 use Rattle.expect_judge.specs.Told.{RoundLine, event_in, round_in, rounds_of}
 use Rattle.expect_judge.specs.declared.seen.TimeSpan.{TimeSpan}
@@ -67,6 +67,10 @@ reading_adds o b a =
     reported_so (line_adds (reading_text r) (plain_reading r))
     (ap round_in words ∙ round_words r.begin r.at r.ending (bare_text r) b a)
     (ap event_in words ∙ other_verb (decimal r.begin) (decimal r.at) (words_of (ending_word r.ending ++ 32 ∷ bare_text r)) (no_verb r.at a))
+
+lines_are : (os : List Outcome) → readings_text (map outcome_listed os) ≡ flat_map (λ (o : Outcome). reading_line o.reading) os
+lines_are [] = refl
+lines_are (o ∷ os) = ap (λ (text : List ℕ). reading_line o.reading ++ text) (lines_are os)
 
 -- ---- when rounds are
 
@@ -110,9 +114,13 @@ said_is devices o =
     let v = verdict_text o.reading in
     sym (append_assoc e (t ++ (v ++ [])) tail ∙ ap (λ (l : List ℕ). e ++ l) (append_assoc t (v ++ []) tail ∙ ap (λ (l : List ℕ). t ++ (l ++ tail)) (append-nil v)))
 
+plain_names : (may_be : List ℕ → ℕ → Bool) (is_so : List ℕ → Bool) (pattern : List ℕ) → named_in pattern ≡ None → for_names may_be is_so pattern ≡ is_so pattern
+unfolding for_names for_first
+plain_names may_be is_so pattern none = ap (for_name may_be (for_first may_be is_so) pattern) none ∙ ap (for_name may_be is_so pattern) none
+
 meets_plainly : (pattern text : List ℕ) → named_in pattern ≡ None → meets pattern text ≡ fits pattern text
 unfolding meets
-meets_plainly pattern text none = names_none (holds_in (last_word text)) (λ p. fits p text) pattern none
+meets_plainly pattern text none = plain_names (holds_in (last_word text)) (λ p. fits p text) pattern none
 
 same_meets : (pattern : List ℕ) (devices : List State) (o : Outcome) → named_in pattern ≡ None → asks_no_sender pattern ≡ true
     → meets pattern (ending_reported o.reading.ending ++ bare_text o.reading) ≡ meets pattern (ending_reported o.reading.ending ++ round_text_of devices o)
@@ -142,7 +150,7 @@ captures_are_seen_alike format topology script x y s t p q small =
     let timed = turns_timed p.edid p.course.end p.trace.run.turns (start (first_net p.plan.tree p.course.pulses) p.course.events) p.trace.run.last p.trace.run.body p.trace.run.leads limit in
     let text = readings_text (file_readings (as_file file.0)) in
     let text_so : text ≡ flat_map (λ (o : Outcome). reading_line o.reading) (map (λ r. r.outcome) rs) =
-    ap readings_text file.2 ∙ lines_of_rounds (rounds_of_line format topology script y t q) ∙ ap (flat_map (λ (o : Outcome). reading_line o.reading)) (sym (back.outcomes ∙ one.1)) in
+    ap readings_text file.2 ∙ lines_are (rounds_of_line format topology script y t q) ∙ ap (flat_map (λ (o : Outcome). reading_line o.reading)) (sym (back.outcomes ∙ one.1)) in
     let adds : Adds text (map (λ r. bare_read r.outcome) rs) [] = subst (λ (z : List ℕ). Adds z (map (λ r. bare_read r.outcome) rs) []) (sym text_so) (readings_add rs timed) in
     let read : rounds_of text ≡ map (λ r. bare_read r.outcome) rs = ap rounds_of (sym (append-nil text)) ∙ adds.rounds [] ∙ append-nil (map (λ r. bare_read r.outcome) rs) in (
       file.0,

@@ -5,19 +5,19 @@ use Rattle.std.specs.Option.{option_to_list}
 use Rattle.std.proofs.lemmas.Bool.{cases_lt}
 use Rattle.std.proofs.lemmas.Bool.Decides.{nat_tests}
 use Rattle.text_core.specs.Bytes.{are_bytes}
-use Rattle.line_wave.specs.Line.{Line}
+use Rattle.line_wave.specs.Line.{Line, is_fall}
 use Rattle.line_frames.specs.Bits.{frame_bits}
 use Rattle.line_frames.specs.Blocks.{bit_value, byte_of, bytes_of, frame_of}
 use Rattle.line_frames.specs.declared.Ending.{Ending}
 use Rattle.line_frames.specs.declared.Ending.TheVariants.{Complete, Short, Silent, BadStart, Long, Open}
 use Rattle.line_reading.specs.Reading.After.{Next, Ends}
 use Rattle.line_reading.specs.Windows.{sample_at, standard}
-use Rattle.line_reading.specs.Reading.{After, after_fall, after_last, after_slot, bit_sampled_at, bits_of, last_ending, next_fall, read_on, read_slots, read_start, reading_of, sample, start_of}
+use Rattle.line_reading.specs.Reading.{After, after_fall, after_last, after_slot, bit_sampled_at, bits_of, first_in, last_ending, next_fall, read_on, read_slots, read_start, reading_of, sample, start_of}
 use Rattle.line_reading.specs.Sending.{is_out_by, is_whole, known_bits}
 use Rattle.line_rounds.specs.Round.{all_known, out_of}
 use Rattle.line_rounds.proofs.Polled.{reported_bits}
 use Rattle.line_rounds.proofs.Spans.{reading_spans}
-use Rattle.line_rounds.proofs.Walk.{next_falls, quiet_sample}
+use Rattle.line_rounds.proofs.Walk.{next_falls}
 use Rattle.message_text.specs.FrameReading.{is_frame}
 
 -- ---- slot by slot
@@ -45,6 +45,16 @@ one_more bits (Some b) = omega (arith, length-append bits (b ∷ []))
 
 with_one : (bits : List Bool) (o : Option Bool) (b : Bool) → o ≡ Some b → length (bits ++ cons_option o []) ≡ length bits + 1
 with_one bits o b e = ap (λ (x : Option Bool). length (bits ++ cons_option x [])) e ∙ length-append bits (b ∷ [])
+
+-- a bit is sampled where no fall comes before its sample
+no_first : (test : ℕ → Bool) (from count : ℕ) → ((u : ℕ) → from ≤ u → u < from + count → test u ≡ false) → first_in test from count ≡ None
+unfolding first_in
+no_first test from zero h = refl
+no_first test from (suc count) h =
+    ap (λ (b : Bool). if b then Some from else first_in test (from + 1) count) (h from (omega arith) (omega arith)) ∙ no_first test (from + 1) count (λ u l m. h u (omega (arith, l)) (omega (arith, m)))
+
+sampled : (low : Line) (e : ℕ) → ((u : ℕ) → e < u → u ≤ e + sample_at → is_fall low u ≡ false) → bit_sampled_at low e ≡ Some (not (low (e + sample_at)))
+sampled low e quiet = ap (sample low e) (no_first (is_fall low) (e + 1) sample_at (λ u l m. quiet u (omega (arith, l)) (omega (arith, m))))
 
 -- the last slot is the tenth of a block
 ninth : (nine eom end : Bool) (x : Ending) → (if nine then (if eom then Some Complete else if end then Some Long else None) else None) ≡ Some x → nine ≡ true
@@ -132,7 +142,7 @@ slots_over low (suc left) bits e all some =
         → IsOver (bits ++ cons_option (bit_sampled_at low e) (bits_of (read_on (read_slots low left (bits ++ option_to_list (bit_sampled_at low e))) a))) (read_on (read_slots low left (bits ++ option_to_list (bit_sampled_at low e))) a).ending
     by_after (Next f) h later =
         let n = next_falls low e bits f h in
-        let q : bit_sampled_at low e ≡ Some (not (low (e + sample_at))) = quiet_sample low e (λ u x y. n.quiet u x (omega (arith, n.far))) in
+        let q : bit_sampled_at low e ≡ Some (not (low (e + sample_at))) = sampled low e (λ u x y. n.quiet u x (omega (arith, n.far))) in
         let count : length (bits ++ option_to_list (bit_sampled_at low e)) ≡ length bits + 1 = rw q (length-append bits (not (low (e + sample_at)) ∷ [])) in
         let room = not_full bits (omega (arith, all)) n.last in
         subst (λ (x : List Bool). IsOver x (read_slots low left (bits ++ option_to_list (bit_sampled_at low e)) f).ending)
