@@ -1,7 +1,7 @@
 -- What the line of a round can say, and the patterns that none meets. A complete reading shows its frame (CEC 6: header, opcode,
 -- operands) and its verdict, another one its bits; then stands who was still sending at the end, and who had stopped. How each is
 -- spelled is this profile's own. The line of a reading of a capture is the front of such a line.
-use Rattle.std.specs.Prelude.{◌≡◌, ℕ, zero, suc, ◌+◌, ◌-◌, ◌<◌, ◌⊎◌, ◌&&◌, ◌||◌, true, false, Bool, if◌then◌else◌, codes, List, [], ◌∷◌, ◌++◌, map, slice_get, Some}
+use Rattle.std.specs.Prelude.{◌≡◌, ℕ, zero, suc, ◌+◌, ◌-◌, ◌⊎◌, ◌&&◌, ◌||◌, true, false, Bool, if◌then◌else◌, codes, List, [], ◌∷◌, ◌++◌, map, slice_get, Some}
 use Rattle.std.specs.List.{list_any}
 use Rattle.line_frames.specs.declared.Ending.{Ending}
 use Rattle.line_frames.specs.declared.Ending.TheVariants.{Short, Silent, BadStart, Long, Open}

@@ -172,7 +172,7 @@ module _ (plan next : Plan) where
 
   form_adds : (words : List (List ℕ)) → checked_in plan (line_of topology_rows words) ≡ Ok next → Adds plan (named_or (declared_in words) []) next
   unfolding row_of
-  form_adds words h = by _ (is_whole device_places words) (is_whole plug_places words) (is_whole edid_places words) refl refl refl (subst (λ rows. checked_in plan (line_of rows words) ≡ Ok next) rows_are h)
+  form_adds words h = by _ (is_whole device_places words) (is_whole plug_places words) (is_whole edid_places words) refl refl refl (subst (λ (rows : List (TopologyVerb × List Place)). checked_in plan (line_of rows words) ≡ Ok next) rows_are h)
     where
       by : (most : ℕ) (d p e : Bool) → is_whole device_places words ≡ d → is_whole plug_places words ≡ p → is_whole edid_places words ≡ e
           → checked_in plan (read_of most (if d then Some (Device, device_places) else if p then Some (Plug, plug_places) else if e then Some (Edid, edid_places) else None) words) ≡ Ok next
@@ -193,7 +193,9 @@ no_comment (w ∷ n ∷ ws) = refl
 skipped_none : (line : List ℕ) → is_skipped line ≡ true → declared_in (words_of line) ≡ None
 skipped_none [] h = refl
 skipped_none (x ∷ xs) h =
-    let same : x ≡ 35 = grind (arith, nat_tests) in
+    let some : (length (x ∷ xs) == 0) ≡ false = grind (arith, nat_tests) in
+    let here : (x == 35) ≡ true = ap (λ (b : Bool). b || (x == 35)) (sym some) ∙ h in
+    let same : x ≡ 35 = grind (arith, nat_tests, here) in
     subst (λ (c : ℕ). declared_in (words_of (c ∷ xs)) ≡ None) (sym same) (no_comment (slice_split (λ b. b == 32) xs))
 
 line_adds : (plan : Plan) (line : List ℕ) (next : Plan) → line_read plan line ≡ Ok next → Adds plan (named_or (declared_in (words_of line)) []) next
