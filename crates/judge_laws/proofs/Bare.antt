@@ -25,7 +25,7 @@ parts_are (p ∷ ps) = by (p == 32) (parts_are ps)
     by false r = (r.0, ap (onto_first p) r.1)
 
 -- the words after the first can't stand for it
-AsksNone : List ℕ → Type 0
+pub AsksNone : List ℕ → Type 0
 AsksNone ps = list_all is_no_by (drop 1 (words_of ps)) ≡ true
 
 both_parts : (a b : Bool) → (a && b) ≡ true → (a ≡ true) × (b ≡ true)
