@@ -150,7 +150,7 @@ no_verb at small = by (bytes_eq (decimal at) (codes "event")) refl
         let none : number_of (codes "event") ≡ None = refl in
         let same : Some at ≡ None = sym (number_again at small) ∙ ap number_of ((bytes_eq-Decides (decimal at) (codes "event")).0 e) ∙ none in cc
 
-reported_so : {text : List ℕ} {r : Option RoundLine} {e : Option EventLine} {round : RoundLine} → Adds text (option_to_list r) (option_to_list e) → r ≡ Some round → e ≡ None → Adds text (round ∷ []) []
+pub reported_so : {text : List ℕ} {r : Option RoundLine} {e : Option EventLine} {round : RoundLine} → Adds text (option_to_list r) (option_to_list e) → r ≡ Some round → e ≡ None → Adds text (round ∷ []) []
 reported_so {text} {r} {e} {round} a h k = subst (λ x. Adds text (option_to_list x) []) h (subst (λ x. Adds text (option_to_list r) (option_to_list x)) k a)
 
 pub round_adds : (r : RoundReported) → All (λ d. IsPlain d.name) r.devices → r.outcome.reading.begin < 2 ^ 64 → r.outcome.reading.at < 2 ^ 64

@@ -207,7 +207,7 @@ same_rounds edid end (suc turns) c d text l =
 
 -- ---- the law
 
-pub whole_text : (text : List ℕ) (rs : List RoundLine) (es : List EventLine) → Adds text (rs ++ []) (es ++ []) → (rounds_of text ≡ rs) × (events_of text ≡ es)
+whole_text : (text : List ℕ) (rs : List RoundLine) (es : List EventLine) → Adds text (rs ++ []) (es ++ []) → (rounds_of text ≡ rs) × (events_of text ≡ es)
 whole_text text rs es a = (
   ap rounds_of (sym (append-nil text)) ∙ a.rounds [] ∙ append-nil (rs ++ []) ∙ append-nil rs,
   ap events_of (sym (append-nil text)) ∙ a.events [] ∙ append-nil (es ++ []) ∙ append-nil es,
