@@ -8,7 +8,12 @@ pub mod Meeting
 pub mod Sending
 pub mod Wording
 pub mod Fronts
+pub mod Spelling
 pub mod Saying
 pub mod Naming
 pub mod Marking
 pub mod Readings
+pub mod Splits
+pub mod Rows
+pub mod Framing
+pub mod Patterns

@@ -6,7 +6,7 @@ use Rattle.expect_text.specs.Names.{NamedPattern, for_byte, for_first, for_name,
 use Rattle.expect_text.specs.Said.{IsSaid, is_said}
 use Rattle.expect_text.specs.Senders.{Judged}
 use Rattle.expect_text.proofs.Truth.{and_both, either, first_of, or_left, or_right, second_of}
-use Rattle.expect_text.proofs.Saying.{patterns_are_met}
+use Rattle.expect_text.proofs.Patterns.{patterns_are_met}
 
 first_by : (may_be : List ℕ → ℕ → Bool) (is_so : List ℕ → Bool) (pattern : List ℕ) (n : Option NamedPattern) → named_in pattern ≡ n → for_first may_be is_so pattern ≡ for_name may_be is_so pattern n
 unfolding for_first

@@ -1,4 +1,4 @@
--- What the line of a reading says is a text that the line of a round can have.
+-- What the line of a reading says is a text of the parts of a line.
 use Rattle.std.proofs.Common.{◌≡◌, ℕ, zero, suc, ◌+◌, ◌-◌, ◌/◌, ◌%◌, ◌<◌, ◌≤◌, ◌==◌, nat_lt, nat_le, ◌&&◌, ◌⊎◌, inl, inr, Bool, true, false, if◌then◌else◌, codes, length, take, drop, map, List, [], ◌∷◌, ◌++◌, Option, Some, None, is_some, refl, sym, ap, subst, ◌∙◌, arith, rules, slice_get, true≢false}
 use Rattle.std.proofs.lemmas.Bool.{cases_lt}
 use Rattle.std.specs.Prelude.{find, option_map, unwrap_or, decimal}
@@ -20,9 +20,8 @@ use Rattle.message_table.specs.declared.word_set.WordSet.{WordSet}
 use Rattle.message_text.specs.FrameText.{frame_text, header_text, is_letter, is_text, is_text_byte, opcode_text, operand_word, operand_words, operands_text, quoted_text, raw_text, spaced_word, with_both}
 use Rattle.message_text.specs.FrameReading.{is_frame}
 use Rattle.message_text.specs.ReadingText.{bit_digit, verdict_by}
-use Rattle.expect_text.specs.Laws.{FitsEnding, ReadingsAreSaid, bits_said, frame_said}
 use Rattle.expect_text.specs.Parts.{IsEnd, IsTextBefore, IsTextOf, has, has_word}
-use Rattle.expect_text.specs.Said.{IsSaid, bitless_parts, bits_parts, ending_word, endings_of, has_bits, header_parts, hex_parts, literal, opcode_parts, operand_parts, operands_parts, quoted_parts, quoted_up_to, raw_but, raw_from, raw_parts, repeat, spoilt_at, spoilt_from, spoilt_operand, spoilt_parts, unworded_parts, verdict_parts, volume_parts, worded_parts}
+use Rattle.expect_text.specs.Said.{FitsEnding, IsSaid, bits_said, frame_said, bitless_parts, bits_parts, ending_word, endings_of, has_bits, header_parts, hex_parts, literal, opcode_parts, operand_parts, operands_parts, quoted_parts, quoted_up_to, raw_but, raw_from, raw_parts, repeat, spoilt_at, spoilt_from, spoilt_operand, spoilt_parts, unworded_parts, verdict_parts, volume_parts, worded_parts}
 use Rattle.expect_text.specs.Senders.{IsTail, Judged}
 use Rattle.expect_text.specs.declared.part.PatternPart.{PatternPart}
 use Rattle.expect_text.specs.declared.part.PatternPart.TheVariants.{Byte, One, Many, Word, Unworded, Opcode}
@@ -30,6 +29,7 @@ use Rattle.expect_text.specs.declared.part.Worded.{Worded as Kinds}
 use Rattle.expect_text.specs.declared.part.Worded.TheVariants.{Listed, Character, Quoted, Loudness}
 use Rattle.expect_text.specs.declared.part.Class.TheVariants.{Hex, Directed, Digit, NonZero, Bit, Quotable}
 use Rattle.expect_text.proofs.Meeting.{append_none}
+use Rattle.expect_text.proofs.Spelling.{IsSpelled}
 use Rattle.expect_text.proofs.Sending.{a_digit, a_nonzero, decimal_two}
 use Rattle.expect_text.proofs.Truth.{and_both, first_of, second_of}
 
@@ -57,12 +57,12 @@ pub literal_is : (text : List ℕ) → IsTextOf (literal text) text
 literal_is [] = refl
 literal_is (b ∷ bs) = (bs, refl, literal_is bs)
 
-some_is : (x y : List ℕ) → Some x ≡ Some y → x ≡ y
+pub some_is : (x y : List ℕ) → Some x ≡ Some y → x ≡ y
 some_is x y e = search rules
 
 -- ---- hex digits
 
-abbrev digit : ℕ → ℕ
+abbrev pub digit : ℕ → ℕ
 digit n = if nat_lt n 10 then 48 + n else 87 + n
 
 pub hex_digit : (n : ℕ) → n < 16 → has Hex (digit n) ≡ true
@@ -131,7 +131,7 @@ word_before set byte parts t more e r = by (word_of (words_of set) byte) refl e
 
 -- ---- operands
 
-none_some : {T : Type 0} (t : List ℕ) → None ≡ Some t → T
+pub none_some : {T : Type 0} (t : List ℕ) → None ≡ Some t → T
 none_some t e = cc
 
 language_is : (a b c : ℕ) (t : List ℕ) → (if is_letter a && is_letter b && is_letter c then Some (32 ∷ a ∷ b ∷ c ∷ []) else None) ≡ Some t → IsTextOf (operand_parts operand.Language) t
@@ -210,7 +210,7 @@ operand_is operand.Address (a ∷ b ∷ c ∷ xs) t h e = none_some t e
 -- ---- rows of operands
 
 -- one of these lists of parts has the text
-abbrev Among : List (List PatternPart) → List ℕ → Type 0
+abbrev pub Among : List (List PatternPart) → List ℕ → Type 0
 Among lists t = (place : ℕ) × (parts : List PatternPart) × (slice_get lists place ≡ Some parts) × IsTextOf parts t
 
 among_first : (parts : List PatternPart) (lists : List (List PatternPart)) (t : List ℕ) → IsTextOf parts t → Among (parts ∷ lists) t
@@ -264,7 +264,7 @@ quoted_among front (suc most) n t least high is = by (cases_lt n (suc most)) (λ
 
 -- ---- how loud
 
-decimal_hundred : (n : ℕ) → n ≡ 100 → decimal n ≡ 49 ∷ 48 ∷ 48 ∷ []
+pub decimal_hundred : (n : ℕ) → n ≡ 100 → decimal n ≡ 49 ∷ 48 ∷ 48 ∷ []
 decimal_hundred n e = rw e (decimal_step 100 (omega arith) (omega arith) ∙ ap (λ xs. xs ++ 48 ∷ []) (decimal_two 10 (omega arith) (omega arith)))
 
 loud_is : (word : List ℕ) (n : ℕ) → n ≤ 100 → Among (volume_parts word) (word ++ decimal n)
@@ -370,7 +370,7 @@ worded (operands.WordAndText set) (byte ∷ x ∷ xs) t h e = word_and_text_is s
 
 -- ---- operands that do not fit their row
 
-doubled : (n : ℕ) → suc n + suc n ≡ suc (suc (n + n))
+pub doubled : (n : ℕ) → suc n + suc n ≡ suc (suc (n + n))
 doubled n = omega arith
 
 hex_is : (xs : List ℕ) → are_bytes xs ≡ true → IsTextOf (hex_parts (length xs)) (flat_map hex_text xs)
@@ -399,7 +399,7 @@ fewer n xs h less = among_left (raw_from 0 n) (raw_from (n + 1) (14 - n)) (raw_t
 more_than : (n : ℕ) (xs : List ℕ) → are_bytes xs ≡ true → n < length xs → length xs ≤ 14 → Among (raw_but n) (raw_text xs)
 more_than n xs h less few = among_right (raw_from 0 n) (raw_from (n + 1) (14 - n)) (raw_text xs) (raw_among (n + 1) (14 - n) xs h (omega (arith, less)) (omega (arith, less, few)))
 
-hex_joined : (xs ys : List ℕ) → flat_map hex_text (xs ++ ys) ≡ flat_map hex_text xs ++ flat_map hex_text ys
+pub hex_joined : (xs ys : List ℕ) → flat_map hex_text (xs ++ ys) ≡ flat_map hex_text xs ++ flat_map hex_text ys
 hex_joined [] ys = refl
 hex_joined (x ∷ xs) ys = ap (λ (t : List ℕ). hex_text x ++ t) (hex_joined xs ys) ∙ sym (append_assoc (hex_text x) (flat_map hex_text xs) (flat_map hex_text ys))
 
@@ -463,11 +463,11 @@ back_bytes : (xs ys : List ℕ) → are_bytes (xs ++ ys) ≡ true → are_bytes 
 back_bytes [] ys h = h
 back_bytes (x ∷ xs) ys h = back_bytes xs ys (second_of (nat_lt x 256) (are_bytes (xs ++ ys)) h)
 
-both_bytes : (xs ys : List ℕ) → are_bytes xs ≡ true → are_bytes ys ≡ true → are_bytes (xs ++ ys) ≡ true
+pub both_bytes : (xs ys : List ℕ) → are_bytes xs ≡ true → are_bytes ys ≡ true → are_bytes (xs ++ ys) ≡ true
 both_bytes [] ys h k = k
 both_bytes (x ∷ xs) ys h k = and_both (nat_lt x 256) (are_bytes (xs ++ ys)) (first_of (nat_lt x 256) (are_bytes xs) h) (both_bytes xs ys (second_of (nat_lt x 256) (are_bytes xs) h) k)
 
-long_front : (xs ys : List ℕ) → length (xs ++ ys) ≡ length xs + length ys
+pub long_front : (xs ys : List ℕ) → length (xs ++ ys) ≡ length xs + length ys
 long_front [] ys = omega arith
 long_front (x ∷ xs) ys = let more = long_front xs ys in omega (arith, more)
 
@@ -485,7 +485,7 @@ bad_text front xs before count h low few bad =
     subst (λ (t : List ℕ). Among (spoilt_from before Quoted count) (raw_text t)) (sym same)
     (spoilt_from_among before Quoted count (length (front ++ r.0)) (length r.2) (raw_text ((front ++ r.0) ++ r.1 ∷ r.2)) (omega (arith, low, more)) (omega (arith, few, long, more)) is)
 
-some_none : {S T : Type 0} (t : S) → Some t ≡ None → T
+pub some_none : {S T : Type 0} (t : S) → Some t ≡ None → T
 some_none t e = cc
 
 -- the same by the numbers of bytes around it
@@ -733,7 +733,7 @@ module _ (who : Judged) (tail : List ℕ) (is_tail : IsTail who tail) where
   unfolding verdict_parts
   verdict_is is_broadcast last_bit = literal_before (IsTail who) (verdict_by is_broadcast last_bit) tail is_tail
 
-  poll_is : (header : ℕ) (last_bit : Bool) → nat_lt header 256 ≡ true → IsSaid who (header_text header ++ (verdict_by (header % 16 == 15) last_bit ++ tail))
+  poll_is : (header : ℕ) (last_bit : Bool) → nat_lt header 256 ≡ true → IsSpelled who (header_text header ++ (verdict_by (header % 16 == 15) last_bit ++ tail))
   poll_is header last_bit h =
       inl (
         header % 16 == 15,
@@ -743,7 +743,7 @@ module _ (who : Judged) (tail : List ℕ) (is_tail : IsTail who tail) where
       )
 
   opcode_is : (header code : ℕ) (operands : List ℕ) (last_bit : Bool) → nat_lt header 256 ≡ true → nat_lt code 256 ≡ true → are_bytes operands ≡ true → length operands ≤ 14
-      → IsSaid who (frame_text (header ∷ code ∷ operands) ++ (verdict_by (header % 16 == 15) last_bit ++ tail))
+      → IsSpelled who (frame_text (header ∷ code ∷ operands) ++ (verdict_by (header % 16 == 15) last_bit ++ tail))
   unfolding opcode_parts header_parts
   opcode_is header code operands last_bit h k m few =
       let r = operands_are (operands_of code) operands m few in
@@ -755,9 +755,9 @@ module _ (who : Judged) (tail : List ℕ) (is_tail : IsTail who tail) where
       let less : code < 256 = grind (arith, common_steps) in
       let same : header_text header ++ (32 ∷ (opcode_text code ++ (text ++ after))) ≡ frame_text (header ∷ code ∷ operands) ++ after =
       ap (λ (x : List ℕ). header_text header ++ (32 ∷ x)) (sym (append_assoc (opcode_text code) text after)) in
-      subst (IsSaid who) same (inr (inl (header % 16 == 15, last_bit, code, r.0, r.1, less, r.2, whole)))
+      subst (IsSpelled who) same (inr (inl (header % 16 == 15, last_bit, code, r.0, r.1, less, r.2, whole)))
 
-  frame_is : (frame : List ℕ) (last_bit : Bool) → is_frame frame ≡ true → IsSaid who (frame_said frame last_bit tail)
+  frame_is : (frame : List ℕ) (last_bit : Bool) → is_frame frame ≡ true → IsSpelled who (frame_said frame last_bit tail)
   frame_is [] last_bit h = absurd (true≢false (sym h))
   frame_is (header ∷ []) last_bit h = poll_is header last_bit (grind (arith, common_steps))
   frame_is (header ∷ code ∷ operands) last_bit h =
@@ -780,7 +780,7 @@ module _ (who : Judged) (tail : List ℕ) (is_tail : IsTail who tail) where
   a_bit true = refl
   a_bit false = refl
 
-  bits_are : (ending : Ending) (place : ℕ) (bits : List Bool) → slice_get (endings_of who) place ≡ Some ending → FitsEnding ending bits → IsSaid who (bits_said ending bits tail)
+  bits_are : (ending : Ending) (place : ℕ) (bits : List Bool) → slice_get (endings_of who) place ≡ Some ending → FitsEnding ending bits → IsSpelled who (bits_said ending bits tail)
   unfolding bits_parts bitless_parts
   bits_are ending place [] e fits =
       inr (inr (
@@ -800,8 +800,7 @@ module _ (who : Judged) (tail : List ℕ) (is_tail : IsTail who tail) where
           texts_after (IsTail who) (literal (ending_word ending)) (One Bit ∷ Many Bit ∷ []) (ending_word ending) (bit_digit b ∷ (map bit_digit bits ++ tail)) (literal_is (ending_word ending))
           (bit_digit b, map bit_digit bits ++ tail, a_bit b, refl, (map bit_digit bits, tail, all_bits bits, refl, is_tail))
 
-pub readings_are_said : ReadingsAreSaid
-readings_are_said = record {
-  complete = λ who frame last_bit tail h t. frame_is who tail t frame last_bit h;
-  others = λ who ending place bits tail e h t. bits_are who tail t ending place bits e h;
-}
+-- each is spelled by the parts of a line
+pub said_is_spelled : (who : Judged) (text : List ℕ) → IsSaid who text → IsSpelled who text
+said_is_spelled who text (inl (frame, last_bit, tail, h, t, e)) = subst (IsSpelled who) (sym e) (frame_is who tail t frame last_bit h)
+said_is_spelled who text (inr (ending, place, bits, tail, is, fits, t, e)) = subst (IsSpelled who) (sym e) (bits_are who tail t ending place bits is fits)

@@ -1,18 +1,18 @@
--- A pattern is met by what the line of a round can say exactly where it is found to be.
+-- A pattern is met by a text of the parts of a line exactly where it is found to be.
 use Rattle.std.proofs.Common.{◌≡◌, ℕ, ◌<◌, ◌&&◌, ◌||◌, inl, inr, Bool, true, false, List, ◌++◌, Some, slice_get}
 use Rattle.std.specs.List.{list_any}
 use Rattle.line_frames.specs.declared.Ending.{Ending}
 use Rattle.message_table.specs.Table.{operands_of}
 use Rattle.expect_text.specs.Fits.{fits}
-use Rattle.expect_text.specs.Laws.{PatternsAreMet}
 use Rattle.expect_text.specs.Parts.{IsTextBefore, any_below, is_met}
-use Rattle.expect_text.specs.Said.{IsEndingSaid, IsFrameSaid, IsPollSaid, IsSaid, bitless_parts, bits_parts, endings_of, has_bits, header_parts, is_complete_met, is_ending_met, is_opcode_met, is_operand_met, is_poll_met, is_said, opcode_parts, operands_parts, verdict_parts}
+use Rattle.expect_text.specs.Said.{bitless_parts, bits_parts, endings_of, has_bits, header_parts, is_complete_met, is_ending_met, is_opcode_met, is_operand_met, is_poll_met, is_said, opcode_parts, operands_parts, verdict_parts}
 use Rattle.expect_text.specs.Senders.{Judged, IsTail, tail_met}
 use Rattle.expect_text.specs.declared.part.PatternPart.{PatternPart}
 use Rattle.expect_text.proofs.Below.{below_only, below_some}
 use Rattle.expect_text.proofs.Meeting.{Decides, any_only, any_some, decides}
 use Rattle.expect_text.proofs.Truth.{and_both, either, first_of, or_left, or_right, second_of}
 use Rattle.expect_text.proofs.Sending.{tail_decides}
+use Rattle.expect_text.proofs.Spelling.{IsEndingSpelled, IsFrameSpelled, IsPollSpelled, IsSpelled}
 
 -- ---- a pattern
 
@@ -51,32 +51,32 @@ module _ (who : Judged) (pattern : List ℕ) where
       (or_right (is_poll_met who is_broadcast pattern true) (any_below 256 (is_opcode_met who is_broadcast pattern))
       (below_only (is_opcode_met who is_broadcast pattern) 256 code l h))
 
-  poll_only : (text : List ℕ) → IsPollSaid who text → fits pattern text ≡ true → is_said who pattern ≡ true
+  poll_only : (text : List ℕ) → IsPollSpelled who text → fits pattern text ≡ true → is_said who pattern ≡ true
   poll_only text (is_broadcast, last_bit, t) f =
       complete_of is_broadcast (poll_of is_broadcast last_bit ((line (header_parts is_broadcast ++ verdict_parts is_broadcast last_bit)).only pattern text t f))
 
-  frame_only : (text : List ℕ) → IsFrameSaid who text → fits pattern text ≡ true → is_said who pattern ≡ true
+  frame_only : (text : List ℕ) → IsFrameSpelled who text → fits pattern text ≡ true → is_said who pattern ≡ true
   frame_only text (is_broadcast, last_bit, code, place, operands, l, e, t) f =
       let met = (line (opcode_parts is_broadcast code ++ (operands ++ verdict_parts is_broadcast last_bit))).only pattern text t f in
       complete_of is_broadcast (opcode_of is_broadcast code l (operand_of is_broadcast last_bit code
       (any_only (λ (operands : List PatternPart). is_met (tail_met who) (opcode_parts is_broadcast code ++ (operands ++ verdict_parts is_broadcast last_bit)) pattern) (operands_parts (operands_of code)) place operands e met)))
 
-  ending_only : (text : List ℕ) → IsEndingSaid who text → fits pattern text ≡ true → is_said who pattern ≡ true
+  ending_only : (text : List ℕ) → IsEndingSpelled who text → fits pattern text ≡ true → is_said who pattern ≡ true
   ending_only text (ending, place, e, inl t) f =
       ending_at place ending e (or_right (has_bits ending && is_met (tail_met who) (bits_parts ending) pattern) (is_met (tail_met who) (bitless_parts ending) pattern) ((line (bitless_parts ending)).only pattern text t f))
   ending_only text (ending, place, e, inr t) f =
       ending_at place ending e (or_left (has_bits ending && is_met (tail_met who) (bits_parts ending) pattern) (is_met (tail_met who) (bitless_parts ending) pattern)
       (and_both (has_bits ending) (is_met (tail_met who) (bits_parts ending) pattern) t.0 ((line (bits_parts ending)).only pattern text t.1 f)))
 
-  said_only : (text : List ℕ) → IsSaid who text → fits pattern text ≡ true → is_said who pattern ≡ true
+  pub said_only : (text : List ℕ) → IsSpelled who text → fits pattern text ≡ true → is_said who pattern ≡ true
   said_only text (inl t) f = poll_only text t f
   said_only text (inr (inl t)) f = frame_only text t f
   said_only text (inr (inr t)) f = ending_only text t f
 
   -- ---- the text that meets it
 
-  abbrev Met : Type 0
-  Met = (text : List ℕ) × IsSaid who text × (fits pattern text ≡ true)
+  abbrev pub Met : Type 0
+  Met = (text : List ℕ) × IsSpelled who text × (fits pattern text ≡ true)
 
   operand_some : (is_broadcast last_bit : Bool) (code : ℕ) → code < 256 → is_operand_met who is_broadcast code pattern last_bit ≡ true → Met
   operand_some is_broadcast last_bit code l h =
@@ -104,12 +104,9 @@ module _ (who : Judged) (pattern : List ℕ) where
       (λ e. let r = (line (bits_parts ending)).some pattern (second_of (has_bits ending) bits e) in (r.0, inr (inr (ending, place, is, inr (first_of (has_bits ending) bits e, r.1))), r.2))
       (λ e. let r = (line (bitless_parts ending)).some pattern e in (r.0, inr (inr (ending, place, is, inl r.1)), r.2))
 
-  said_some : is_said who pattern ≡ true → Met
+  pub said_some : is_said who pattern ≡ true → Met
   unfolding is_said
   said_some h =
       either (list_any (is_ending_met who pattern) (endings_of who)) (is_complete_met who pattern false || is_complete_met who pattern true) h
       (λ e. let a = any_some (is_ending_met who pattern) (endings_of who) e in ending_some a.0 a.1 a.2 a.3)
       (λ e. either (is_complete_met who pattern false) (is_complete_met who pattern true) e (complete_some false) (complete_some true))
-
-pub patterns_are_met : PatternsAreMet
-patterns_are_met = record { only = said_only; met = said_some }

@@ -1,7 +1,7 @@
 -- What the line of a round can say, and the patterns that none meets. A complete reading shows its frame (CEC 6: header, opcode,
 -- operands) and its verdict, another one its bits; then stands who was still sending at the end, and who had stopped. How each is
 -- spelled is this profile's own. The line of a reading of a capture is the front of such a line.
-use Rattle.std.specs.Prelude.{◌≡◌, ℕ, zero, suc, ◌+◌, ◌-◌, ◌<◌, ◌⊎◌, ◌&&◌, ◌||◌, true, false, Bool, if◌then◌else◌, codes, List, [], ◌∷◌, ◌++◌, map, slice_get, Some}
+use Rattle.std.specs.Prelude.{◌≡◌, ℕ, zero, suc, ◌+◌, ◌-◌, ◌⊎◌, ◌&&◌, ◌||◌, true, false, Bool, if◌then◌else◌, codes, List, [], ◌∷◌, ◌++◌, map, slice_get, Some}
 use Rattle.std.specs.List.{list_any}
 use Rattle.line_frames.specs.declared.Ending.{Ending}
 use Rattle.line_frames.specs.declared.Ending.TheVariants.{Short, Silent, BadStart, Long, Open}
@@ -11,8 +11,10 @@ use Rattle.message_table.specs.declared.operand.Operand.{Operand}
 use Rattle.message_table.specs.declared.operand.Operand.TheVariants as operand
 use Rattle.message_table.specs.declared.operand.Operands.{Operands}
 use Rattle.message_table.specs.declared.operand.Operands.TheVariants as operands
-use Rattle.message_text.specs.ReadingText.{verdict_by}
-use Rattle.expect_text.specs.Parts.{IsTextBefore, any_below, is_met}
+use Rattle.message_text.specs.FrameReading.{is_frame}
+use Rattle.message_text.specs.FrameText.{frame_text}
+use Rattle.message_text.specs.ReadingText.{bits_text, is_broadcast as is_to_all, verdict_by}
+use Rattle.expect_text.specs.Parts.{any_below, is_met}
 use Rattle.expect_text.specs.Senders.{Judged, IsTail, judged_as, tail_met}
 use Rattle.expect_text.specs.Senders.Judged.{Run, Capture}
 use Rattle.expect_text.specs.declared.hole.Hole.{Hole}
@@ -157,22 +159,30 @@ bitless_parts ending = literal (ending_word ending) ++ Byte 45 ∷ []
 unfoldable pub bits_parts : Ending → List PatternPart
 bits_parts ending = literal (ending_word ending) ++ One Bit ∷ Many Bit ∷ []
 
--- A complete reading of a header alone, one with an opcode and its operands, and one that is not complete; and then who sent.
-abbrev pub IsPollSaid : Judged → List ℕ → Type 0
-IsPollSaid who text = (is_broadcast last_bit : Bool) × IsTextBefore (IsTail who) (header_parts is_broadcast ++ verdict_parts is_broadcast last_bit) text
+-- ---- what is said
+
+-- The text of a frame, what was read in its last acknowledge slot, and then who sent.
+abbrev pub frame_said : List ℕ → Bool → List ℕ → List ℕ
+frame_said frame last_bit tail = frame_text frame ++ (verdict_by (is_to_all (Some frame)) last_bit ++ tail)
+
+-- The bits of a reading that is not complete, and then who sent.
+abbrev pub bits_said : Ending → List Bool → List ℕ → List ℕ
+bits_said ending bits tail = ending_word ending ++ (bits_text bits ++ tail)
+
+-- a bad start has no bits
+abbrev pub FitsEnding : Ending → List Bool → Type 0
+FitsEnding ending bits = has_bits ending ≡ false → bits ≡ []
 
 abbrev pub IsFrameSaid : Judged → List ℕ → Type 0
-IsFrameSaid who text = (is_broadcast last_bit : Bool) × (code place : ℕ) × (operands : List PatternPart) × (code < 256)
-    × (slice_get (operands_parts (operands_of code)) place ≡ Some operands)
-    × IsTextBefore (IsTail who) (opcode_parts is_broadcast code ++ (operands ++ verdict_parts is_broadcast last_bit)) text
+IsFrameSaid who text = (frame : List ℕ) × (last_bit : Bool) × (tail : List ℕ) × (is_frame frame ≡ true) × IsTail who tail × (text ≡ frame_said frame last_bit tail)
 
-abbrev pub IsEndingSaid : Judged → List ℕ → Type 0
-IsEndingSaid who text = (ending : Ending) × (place : ℕ) × (slice_get (endings_of who) place ≡ Some ending)
-    × (IsTextBefore (IsTail who) (bitless_parts ending) text ⊎ ((has_bits ending ≡ true) × IsTextBefore (IsTail who) (bits_parts ending) text))
+abbrev pub IsBitsSaid : Judged → List ℕ → Type 0
+IsBitsSaid who text = (ending : Ending) × (place : ℕ) × (bits : List Bool) × (tail : List ℕ) × (slice_get (endings_of who) place ≡ Some ending)
+    × FitsEnding ending bits × IsTail who tail × (text ≡ bits_said ending bits tail)
 
 -- a text that the line of a round can have after its times, without the word `complete`
 abbrev pub IsSaid : Judged → List ℕ → Type 0
-IsSaid who text = IsPollSaid who text ⊎ IsFrameSaid who text ⊎ IsEndingSaid who text
+IsSaid who text = IsFrameSaid who text ⊎ IsBitsSaid who text
 
 -- ---- patterns, by what stands at the end of a line
 

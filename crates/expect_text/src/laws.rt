@@ -5,14 +5,15 @@ ghost use Rattle.text_core.specs.Bytes.{are_bytes};
 ghost use Rattle.text_core.specs.Piece.{hex_text};
 ghost use Rattle.expect_text.specs.Parts.{has};
 ghost use Rattle.expect_text.specs.declared.part.Class.TheVariants.{Hex};
-ghost use Rattle.expect_text.specs.Laws.{CountsAreOfBounds, NamesAreMet, PatternsAreMet, ReadingsAreSaid, StateWordsAreMet};
+ghost use Rattle.expect_text.specs.Laws.{CountsAreOfBounds, NamesAreMet, PatternsAreMet, StateWordsAreMet};
 
 /// `at most` a number allows what `at least` one more does not; `exactly` a number what both of these allow of it.
 pub fn counts_are_of_bounds()
     ensures { CountsAreOfBounds }
 {}
 
-/// A pattern is refused exactly where no text that the line of a round can have meets it.
+/// A pattern is refused exactly where no text that the line of a round can have meets it: no frame's with a verdict and those who
+/// sent, and no bits.
 pub fn patterns_are_met()
     ensures { PatternsAreMet }
 {}
@@ -20,11 +21,6 @@ pub fn patterns_are_met()
 /// A pattern with names is refused exactly where no such text meets it, whichever addresses the devices hold.
 pub fn names_are_met()
     ensures { NamesAreMet }
-{}
-
-/// Whatever is read, and whoever sends, what the line of the round says is a text that `patterns_are_met` speaks of.
-pub fn readings_are_said()
-    ensures { ReadingsAreSaid }
 {}
 
 /// A word of a state is refused exactly where no state line can have it.

@@ -24,7 +24,7 @@ pub use form::{
 pub use labels::Labels;
 pub use laws::{
     counts_are_of_bounds, hex_is_written_in_its_class, names_are_met, patterns_are_met,
-    readings_are_said, state_words_are_met,
+    state_words_are_met,
 };
 pub use line::{Labelled, cut_script, has_verb, onset_in, plain_part, plain_script, unlabelled};
 pub use named::NamedPattern;

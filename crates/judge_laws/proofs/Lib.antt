@@ -6,3 +6,9 @@ pub mod Script
 pub mod Run
 pub mod States
 pub mod Agree
+pub mod Read
+pub mod Declared
+pub mod Said
+pub mod Bare
+pub mod Alike
+pub mod Files

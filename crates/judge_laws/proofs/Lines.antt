@@ -46,7 +46,7 @@ onto : {X : Type 0} (o : Option X) (xs : List X) → cons_option o xs ≡ option
 onto None xs = refl
 onto (Some x) xs = refl
 
-line_adds : (line : List ℕ) → IsPlain line → Adds (line ++ 10 ∷ []) (option_to_list (round_in (words_of line))) (option_to_list (event_in (words_of line)))
+pub line_adds : (line : List ℕ) → IsPlain line → Adds (line ++ 10 ∷ []) (option_to_list (round_in (words_of line))) (option_to_list (event_in (words_of line)))
 line_adds line plain = record {
   rounds = λ rest. ap (filter_map (λ l. round_in (words_of l))) (lines rest) ∙ onto (round_in (words_of line)) (rounds_of rest);
   events = λ rest. ap (filter_map (λ l. event_in (words_of l))) (lines rest) ∙ onto (event_in (words_of line)) (events_of rest);

@@ -118,7 +118,7 @@ five a b e t v z =
     ∙ ap (λ l. e ++ l) (append_assoc t (v ++ []) z
     ∙ ap (λ l. t ++ l) (append_assoc v [] z))))
 
-spaced : (w z : List ℕ) → (32 ∷ (w ++ 32 ∷ [])) ++ z ≡ 32 ∷ (w ++ 32 ∷ z)
+pub spaced : (w z : List ℕ) → (32 ∷ (w ++ 32 ∷ [])) ++ z ≡ 32 ∷ (w ++ 32 ∷ z)
 spaced w z = ap (λ l. 32 ∷ l) (append_assoc w (32 ∷ []) z)
 
 pub line_is : (devices : List State) (o : Outcome)
@@ -129,7 +129,7 @@ line_is devices o =
     ∙ ap (λ e. decimal o.reading.begin ++ 32 ∷ (decimal o.reading.at ++ (e ++ after devices o))) (is_ending o.reading.ending).spelled
     ∙ ap (λ l. decimal o.reading.begin ++ 32 ∷ (decimal o.reading.at ++ l)) (spaced (ending_word o.reading.ending) (after devices o))
 
-round_words : (begin at : ℕ) (e : Ending) (text : List ℕ) → begin < 2 ^ 64 → at < 2 ^ 64
+pub round_words : (begin at : ℕ) (e : Ending) (text : List ℕ) → begin < 2 ^ 64 → at < 2 ^ 64
     → round_in (decimal begin ∷ decimal at ∷ words_of (ending_word e ++ 32 ∷ text)) ≡ Some (record { begin = begin; at = at; reported = ending_reported e ++ text })
 round_words begin at e text b a =
     ap (λ ws. round_in (decimal begin ∷ decimal at ∷ ws)) ((is_ending e).words text)
@@ -141,7 +141,7 @@ abbrev pub round_tail : (devices : List State) (o : Outcome) → All (λ d. IsPl
 round_tail devices o plain = closed_word (ending_word o.reading.ending) (is_ending o.reading.ending).plain (said_closed devices o plain)
 
 -- a number is no verb
-no_verb : (at : ℕ) → at < 2 ^ 64 → bytes_eq (decimal at) (codes "event") ≡ false
+pub no_verb : (at : ℕ) → at < 2 ^ 64 → bytes_eq (decimal at) (codes "event") ≡ false
 no_verb at small = by (bytes_eq (decimal at) (codes "event")) refl
   where
     by : (b : Bool) → bytes_eq (decimal at) (codes "event") ≡ b → b ≡ false
@@ -150,7 +150,7 @@ no_verb at small = by (bytes_eq (decimal at) (codes "event")) refl
         let none : number_of (codes "event") ≡ None = refl in
         let same : Some at ≡ None = sym (number_again at small) ∙ ap number_of ((bytes_eq-Decides (decimal at) (codes "event")).0 e) ∙ none in cc
 
-reported_so : {text : List ℕ} {r : Option RoundLine} {e : Option EventLine} {round : RoundLine} → Adds text (option_to_list r) (option_to_list e) → r ≡ Some round → e ≡ None → Adds text (round ∷ []) []
+pub reported_so : {text : List ℕ} {r : Option RoundLine} {e : Option EventLine} {round : RoundLine} → Adds text (option_to_list r) (option_to_list e) → r ≡ Some round → e ≡ None → Adds text (round ∷ []) []
 reported_so {text} {r} {e} {round} a h k = subst (λ x. Adds text (option_to_list x) []) h (subst (λ x. Adds text (option_to_list r) (option_to_list x)) k a)
 
 pub round_adds : (r : RoundReported) → All (λ d. IsPlain d.name) r.devices → r.outcome.reading.begin < 2 ^ 64 → r.outcome.reading.at < 2 ^ 64

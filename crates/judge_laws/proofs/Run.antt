@@ -215,7 +215,7 @@ whole_text text rs es a = (
 
 -- ---- which rounds are seen
 
-after_none : {X Y Z : Type 0} (g : X → Option Y) (f : Option Y → Option Z) → f None ≡ None → (xs : List X)
+pub after_none : {X Y Z : Type 0} (g : X → Option Y) (f : Option Y → Option Z) → f None ≡ None → (xs : List X)
     → filter_map (λ x. f (g x)) xs ≡ filter_map (λ y. f (Some y)) (filter_map g xs)
 after_none {X} {Y} g f none [] = refl
 after_none {X} {Y} g f none (x ∷ xs) = by (g x) (after_none g f none xs)
@@ -225,7 +225,7 @@ after_none {X} {Y} g f none (x ∷ xs) = by (g x) (after_none g f none xs)
     by None more = ap (λ o. cons_option o (filter_map (λ x. f (g x)) xs)) none ∙ more
     by (Some y) more = ap (cons_option (f (Some y))) more
 
-of_mapped : {X Y Z : Type 0} (f : X → Y) (h : Y → Option Z) (xs : List X) → filter_map h (map f xs) ≡ filter_map (λ x. h (f x)) xs
+pub of_mapped : {X Y Z : Type 0} (f : X → Y) (h : Y → Option Z) (xs : List X) → filter_map h (map f xs) ≡ filter_map (λ x. h (f x)) xs
 of_mapped f h [] = refl
 of_mapped f h (x ∷ xs) = ap (cons_option (h (f x))) (of_mapped f h xs)
 

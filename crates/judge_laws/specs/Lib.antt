@@ -1,2 +1,4 @@
 pub mod ReadBack
 pub mod States
+pub mod Said
+pub mod Alike

@@ -1,9 +1,10 @@
-//! Laws: what is read of a trace is its run.
+//! Laws: what is read of a trace is its run, what its rounds say is what patterns can meet, and its capture is judged alike.
 #![tactic(auto)]
 
 mod laws;
 
 pub use laws::{
-    cut_traces_agree, lines_report_rounds, state_lines_are_read, states_are_of_runs,
-    traces_are_read_back,
+    captures_are_seen_alike, cut_traces_agree, files_are_judged_alike, lines_report_rounds,
+    names_are_declared, readings_are_said, refused_are_never_seen, rounds_are_said,
+    state_lines_are_read, states_are_of_runs, traces_are_read_back,
 };

@@ -1,4 +1,4 @@
-use Rattle.expect_text.proofs.Saying as lemmas
+use Rattle.expect_text.proofs.Patterns as lemmas
 use Rattle.expect_text.proofs.laws.patterns_are_met.Goals as goal
 
 pub returns : goal.returns

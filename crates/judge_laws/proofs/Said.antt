@@ -1,0 +1,287 @@
+-- What the rounds of a run say is what a pattern can meet.
+use Rattle.std.proofs.Common.{◌≡◌, ℕ, zero, suc, ◌+◌, ◌-◌, nat_le, ◌&&◌, inl, inr, Bool, true, false, true≢false, codes, if◌then◌else◌, length, map, slice_get, List, [], ◌∷◌, ◌++◌, append-nil, Option, Some, None, refl, sym, ap, subst, ◌∙◌, arith}
+use Rattle.std.proofs.lemmas.List.Elements.{All-append, All-cons, All-nil}
+use Rattle.std.specs.Prelude.{decimal}
+use Rattle.std.specs.List.{All, cons_option, filter_map}
+use Rattle.line_wave.specs.Line.{Line, is_fall, line_of}
+use Rattle.line_frames.specs.Blocks.{frame_by, frame_in}
+use Rattle.line_frames.specs.declared.Ending.{Ending}
+use Rattle.line_frames.specs.declared.Ending.TheVariants.{Complete, Short, Silent, BadStart, Long, Open}
+use Rattle.line_frames.specs.declared.Reading.{Reading}
+use Rattle.line_reading.specs.Reading.{Slot, bits_of, first_in, known_at, reading_of, reported_of}
+use Rattle.line_reading.specs.Readings.{listed_on, reading_from, readings_from}
+use Rattle.line_rounds.specs.declared.Loser.{Loser}
+use Rattle.line_rounds.specs.declared.Outcome.{Outcome}
+use Rattle.line_rounds.specs.declared.Seat.{Seat}
+use Rattle.line_rounds.specs.Round.{all_known, losers_from, lost_at, out_of, sends_in, survivors_from}
+use Rattle.message_text.specs.ReadingText.{is_broadcast, is_complete, last_bit, reported_by, reported_frame, reported_text, verdict_by, verdict_in, verdict_text}
+use Rattle.capture_monitor.specs.Watch.{reading_as}
+use Rattle.edid_core.specs.declared.edid.Edid.{Edid}
+use Rattle.device_core.specs.State.{State}
+use Rattle.room_net.specs.State.{NetState, first_net}
+use Rattle.room_net.specs.Step.{seat_of, seats_of}
+use Rattle.room_script.specs.declared.script.TimedEvent.{TimedEvent}
+use Rattle.room_trace.specs.TraceText.{comma_list, loser_text, name_at}
+use Rattle.room_run.specs.declared.run.Reporting.TheVariants.{Trace}
+use Rattle.room_run.specs.declared.run.Turn.{Turn}
+use Rattle.room_run.specs.declared.run.Turn.TheVariants.{Stop, Apply, Round}
+use Rattle.room_run.specs.Run.{Config, IsEventTurn, IsTurnBy, Leads, start, turn_at}
+use Rattle.room_driven.specs.Driven.{names_of}
+use Rattle.driven_laws.proofs.Names.{names_started}
+use Rattle.expect_text.specs.Faults.{names_of as declared_of}
+use Rattle.expect_text.specs.Fits.{fits}
+use Rattle.expect_text.specs.Names.{for_names, holds_in, is_meetable, last_word, meets}
+use Rattle.expect_text.specs.Said.{IsSaid, endings_of}
+use Rattle.expect_text.specs.Senders.{AreOf, IsLoser, IsSender, IsSenders, IsTail, Judged, listed}
+use Rattle.expect_text.specs.Senders.Judged.{Run, Capture}
+use Rattle.expect_text.proofs.Naming.{names_are_met}
+use Rattle.expect_judge.specs.Seen.{end_by}
+use Rattle.expect_judge.specs.Told.{RoundLine}
+use Rattle.expect_judge.specs.declared.seen.TimeSpan.{TimeSpan}
+use Rattle.judge_laws.specs.ReadBack.{RoundReported, ending_reported, round_read, rounds_by, rounds_in, rounds_reported}
+use Rattle.judge_laws.specs.Said.{ReadingsAreSaid, RefusedAreNeverSeen, RoundsAreSaid, reading_said}
+use Rattle.judge_laws.proofs.Declared.{names_are_declared}
+use Rattle.judge_laws.proofs.Names.{names_applied, names_round}
+use Rattle.judge_laws.proofs.Read.{IsHeard, IsOver, frame_there, out_within, reading_heard}
+use Rattle.judge_laws.proofs.Run.{traces_are_read_back}
+
+-- ---- who sent, in the topology's order
+
+-- these are the names of devices from a number on
+AreFrom : List State → ℕ → List (List ℕ) → Type 0
+AreFrom devices n names = (k : ℕ) (name : List ℕ) → slice_get names k ≡ Some name → name_at devices (n + k) ≡ name
+
+first_from : (devices : List State) (n : ℕ) (name : List ℕ) (names : List (List ℕ)) → AreFrom devices n (name ∷ names) → name_at devices n ≡ name
+unfolding AreFrom
+first_from devices n name names h = let here : n ≡ n + 0 = omega arith in ap (name_at devices) here ∙ h 0 name refl
+
+others_from : (devices : List State) (n : ℕ) (name : List ℕ) (names : List (List ℕ)) → AreFrom devices n (name ∷ names) → AreFrom devices (n + 1) names
+unfolding AreFrom
+others_from devices n name names h k other e = let there : n + 1 + k ≡ n + suc k = omega arith in ap (name_at devices) there ∙ h (suc k) other e
+
+at_place : (devices : List State) (k : ℕ) (name : List ℕ) → slice_get (names_of devices) k ≡ Some name → name_at devices k ≡ name
+at_place [] zero name e = cc
+at_place [] (suc k) name e = cc
+at_place (d ∷ devices) zero name e = let same : d.name ≡ name = cc in same
+at_place (d ∷ devices) (suc k) name e = at_place devices k name e
+
+all_from : (devices : List State) → AreFrom devices 0 (names_of devices)
+unfolding AreFrom
+all_from devices k name e = let here : 0 + k ≡ k = omega arith in ap (name_at devices) here ∙ at_place devices k name e
+
+module _ (devices : List State) (low : Line) (begin : ℕ) where
+  senders_are : (n : ℕ) (seats : List Seat) (names : List (List ℕ)) → length seats ≡ length names → AreFrom devices n names
+      → AreOf IsSender names (map (name_at devices) (survivors_from (reading_of low begin) n seats))
+  senders_are n [] [] l h = refl
+  senders_are n [] (name ∷ names) l h = absurd (omega (arith, l))
+  senders_are n (s ∷ seats) [] l h = absurd (omega (arith, l))
+  senders_are n (s ∷ seats) (name ∷ names) l h =
+      by (sends_in (all_known (reading_of low begin)) s.sends (length (bits_of (reading_of low begin)) + 1))
+      (senders_are (n + 1) seats names (omega (arith, l)) (others_from devices n name names h))
+    where
+      by : (b : Bool) → AreOf IsSender names (map (name_at devices) (survivors_from (reading_of low begin) (n + 1) seats))
+          → AreOf IsSender (name ∷ names) (map (name_at devices) (if b then n ∷ survivors_from (reading_of low begin) (n + 1) seats else survivors_from (reading_of low begin) (n + 1) seats))
+      by true more = inr (name_at devices n, map (name_at devices) (survivors_from (reading_of low begin) (n + 1) seats), refl, first_from devices n name names h, more)
+      by false more = inl more
+
+  losers_are : (n : ℕ) (seats : List Seat) (names : List (List ℕ)) → length seats ≡ length names → AreFrom devices n names
+      → AreOf IsLoser names (map (loser_text devices) (losers_from (reading_of low begin) n seats))
+  losers_are n [] [] l h = refl
+  losers_are n [] (name ∷ names) l h = absurd (omega (arith, l))
+  losers_are n (s ∷ seats) [] l h = absurd (omega (arith, l))
+  losers_are n (s ∷ seats) (name ∷ names) l h =
+      by (out_of (reading_of low begin) s.sends) refl (losers_are (n + 1) seats names (omega (arith, l)) (others_from devices n name names h))
+    where
+      by : (o : Option ℕ) → out_of (reading_of low begin) s.sends ≡ o → AreOf IsLoser names (map (loser_text devices) (losers_from (reading_of low begin) (n + 1) seats))
+          → AreOf IsLoser (name ∷ names) (map (loser_text devices) (lost_at n o ++ losers_from (reading_of low begin) (n + 1) seats))
+      by None e more = inl more
+      by (Some slot) e more =
+          let within = out_within low begin s.sends slot e in
+          inr (
+            name_at devices n ++ (64 ∷ decimal slot),
+            map (loser_text devices) (losers_from (reading_of low begin) (n + 1) seats),
+            refl,
+            (slot, within.0, within.1, ap (λ (t : List ℕ). t ++ (64 ∷ decimal slot)) (first_from devices n name names h)),
+            more,
+          )
+
+commas_are : (texts : List (List ℕ)) → comma_list texts ≡ listed texts
+commas_are [] = refl
+commas_are (t ∷ texts) = refl
+
+-- what stands after the reading
+abbrev tail_of : List State → Outcome → List ℕ
+tail_of devices o = codes " by " ++ (comma_list (map (name_at devices) o.survivors.items) ++ (codes " out " ++ comma_list (map (loser_text devices) o.losers.items)))
+
+tail_is : (names : List (List ℕ)) (devices : List State) (o : Outcome) → AreOf IsSender names (map (name_at devices) o.survivors.items) → AreOf IsLoser names (map (loser_text devices) o.losers.items)
+    → IsSenders names (tail_of devices o)
+tail_is names devices o by out = (
+  map (name_at devices) o.survivors.items,
+  map (loser_text devices) o.losers.items,
+  by,
+  out,
+  ap (λ (t : List ℕ). codes " by " ++ (t ++ (codes " out " ++ comma_list (map (loser_text devices) o.losers.items)))) (commas_are (map (name_at devices) o.survivors.items))
+      ∙ ap (λ (t : List ℕ). codes " by " ++ (listed (map (name_at devices) o.survivors.items) ++ (codes " out " ++ t))) (commas_are (map (loser_text devices) o.losers.items)),
+)
+
+-- ---- what was read
+
+-- by how the reading ended
+abbrev said_of : Reading → List ℕ → Ending → List ℕ
+said_of r tail ending = ending_reported ending ++ (reported_by (is_complete ending) r ++ (verdict_in (is_complete ending) r ++ tail))
+
+-- where the endings stand that a line can have
+record HasPlaces (who : Judged) : Type 0 where
+  short : slice_get (endings_of who) 0 ≡ Some Short
+  silent : slice_get (endings_of who) 1 ≡ Some Silent
+  bad : slice_get (endings_of who) 2 ≡ Some BadStart
+  long : slice_get (endings_of who) 3 ≡ Some Long
+
+run_places : (names : List (List ℕ)) → HasPlaces (Run names)
+run_places names = record { short = refl; silent = refl; bad = refl; long = refl }
+
+capture_places : HasPlaces Capture
+capture_places = record { short = refl; silent = refl; bad = refl; long = refl }
+
+module _ (who : Judged) (places : HasPlaces who) (r : Reading) (tail : List ℕ) (senders : IsTail who tail) where
+  over_said : (ending : Ending) → r.ending ≡ ending → IsOver r.bits.items ending → IsSaid who (said_of r tail ending)
+  over_said Complete e over =
+      let f = frame_there r.bits.items over.way.0 over.way.1 over.few in
+      let same : frame_in r ≡ Some f.0 = ap (λ (x : Ending). frame_by x r.bits.items) e ∙ f.1 in
+      inl (
+        f.0,
+        last_bit r.bits.items,
+        tail,
+        f.2,
+        senders,
+        ap (λ (x : Option (List ℕ)). reported_frame x ++ (verdict_by (is_broadcast x) (last_bit r.bits.items) ++ tail)) same,
+      )
+  over_said Short e over = inr (Short, 0, r.bits.items, tail, places.short, λ h. absurd (true≢false h), senders, refl)
+  over_said Silent e over = inr (Silent, 1, r.bits.items, tail, places.silent, λ h. absurd (true≢false h), senders, refl)
+  over_said BadStart e over = absurd over.way
+  over_said Long e over = inr (Long, 3, r.bits.items, tail, places.long, λ h. absurd (true≢false h), senders, refl)
+  over_said Open e over = absurd over.way
+
+  heard_said : IsHeard r.bits.items r.ending → IsSaid who (said_of r tail r.ending)
+  heard_said (inl bad) =
+      subst (λ (x : Ending). IsSaid who (said_of r tail x)) (sym bad.0) (inr (BadStart, 2, r.bits.items, tail, places.bad, λ h. bad.1, senders, refl))
+  heard_said (inr over) = over_said r.ending refl over
+
+-- ---- the readings of a line
+
+bare : (r : Reading) → said_of r [] r.ending ≡ reading_said r
+bare r = ap (λ (t : List ℕ). ending_reported r.ending ++ (reported_text r ++ t)) (append-nil (verdict_text r))
+
+open_said : (begin at : ℕ) (bits : List Bool) → IsSaid Capture (reading_said (reading_as (record { begin = begin; reported = record { bits = bits; ending = Open; at = at } })))
+open_said begin at bits = inr (Open, 4, bits, [], refl, λ h. absurd (true≢false h), refl, refl)
+
+listed_said : (low : Line) (end e : ℕ) → IsSaid Capture (reading_said (reading_as (reading_from low end e)))
+listed_said low end e = by (nat_le (reading_of low e).at end)
+  where
+    by : (b : Bool) → IsSaid Capture (reading_said (reading_as (record { begin = e; reported = if b then reported_of (reading_of low e) else record { bits = filter_map (λ (s : Slot). s.bit) (known_at (end + 1) (reading_of low e)).slots; ending = Open; at = end } })))
+    by true =
+        let r : Reading = reading_as (record { begin = e; reported = reported_of (reading_of low e) }) in
+        subst (IsSaid Capture) (bare r) (heard_said Capture capture_places r [] refl (reading_heard low e))
+    by false = open_said e end (filter_map (λ (s : Slot). s.bit) (known_at (end + 1) (reading_of low e)).slots)
+
+from_said : (low : Line) (end left from : ℕ) → All (λ x. IsSaid Capture (reading_said (reading_as x))) (readings_from low end left from)
+unfolding readings_from
+from_said low end zero from = All-nil (λ x. IsSaid Capture (reading_said (reading_as x)))
+from_said low end (suc left) from = by (first_in (is_fall low) from (end + 1 - from)) (from_said low end left)
+  where
+    by : (o : Option ℕ) → ((f : ℕ) → All (λ x. IsSaid Capture (reading_said (reading_as x))) (readings_from low end left f))
+        → All (λ x. IsSaid Capture (reading_said (reading_as x))) (listed_on low end o (readings_from low end left))
+    by None later = All-nil (λ x. IsSaid Capture (reading_said (reading_as x)))
+    by (Some e) later =
+        All-cons (λ x. IsSaid Capture (reading_said (reading_as x))) (reading_from low end e) (readings_from low end left ((reading_of low e).until + 1)) (listed_said low end e) (later ((reading_of low e).until + 1))
+
+pub readings_are_said : ReadingsAreSaid
+readings_are_said low end = from_said low end (end + 1) 0
+
+-- ---- turn by turn
+
+abbrev AreSaid : List (List ℕ) → List RoundReported → Type 0
+AreSaid names rs = All (λ r. IsSaid (Run names) (round_read r).reported) rs
+
+none_said : (names : List (List ℕ)) → AreSaid names []
+none_said names = All-nil (λ r. IsSaid (Run names) (round_read r).reported)
+
+seats_many : (s : NetState) (begin : ℕ) (devices : List State) → length (map (seat_of s.rest begin) devices) ≡ length (names_of devices)
+seats_many s begin [] = refl
+seats_many s begin (d ∷ devices) = let more = seats_many s begin devices in omega (arith, more)
+
+round_said : (names : List (List ℕ)) (edid : Option Edid) (begin : ℕ) (c d : Config) (reported : List ℕ) → (t : IsTurnBy (Trace edid) (Round begin) c reported d) → names_of c.net.devices ≡ names
+    → (names_of d.net.devices ≡ names) × AreSaid names (rounds_by edid (Round begin) c reported d t)
+round_said names edid begin c d reported t h =
+    let o = t.0.outcome in
+    let round = t.0.next.round in
+    let low : Line = line_of o.wave in
+    let seats = seats_of c.net begin in
+    let same : names_of d.net.devices ≡ names = ap (λ (s : NetState). names_of s.devices) t.0.next.after_is ∙ names_round c.net begin o ∙ h in
+    let many : length seats ≡ length names = seats_many c.net begin c.net.devices ∙ ap length h in
+    let from : AreFrom d.net.devices 0 names = subst (AreFrom d.net.devices 0) same (all_from d.net.devices) in
+    let by = subst (λ (xs : List ℕ). AreOf IsSender names (map (name_at d.net.devices) xs)) (sym round.survivors) (senders_are d.net.devices low begin 0 seats names many from) in
+    let out = subst (λ (xs : List Loser). AreOf IsLoser names (map (loser_text d.net.devices) xs)) (sym round.losers) (losers_are d.net.devices low begin 0 seats names many from) in
+    let r : RoundReported = record { devices = d.net.devices; outcome = o } in
+    let heard : IsHeard o.reading.bits.items o.reading.ending =
+    subst (λ (x : Ending). IsHeard o.reading.bits.items x) (sym round.ending) (subst (λ (xs : List Bool). IsHeard xs (reading_of low begin).ending) (sym round.bits) (reading_heard low begin)) in (
+      same,
+      All-cons (λ r. IsSaid (Run names) (round_read r).reported) r []
+          (heard_said (Run names) (run_places names) o.reading (tail_of d.net.devices o) (tail_is names d.net.devices o by out) heard) (none_said names),
+    )
+
+event_said : (names : List (List ℕ)) (edid : Option Edid) (at : ℕ) (events : List TimedEvent) (c d : Config) (reported : List ℕ) → IsEventTurn (Trace edid) at events c reported d
+    → names_of c.net.devices ≡ names → names_of d.net.devices ≡ names
+event_said names edid at [] c d reported t h = ap (λ (x : Config). names_of x.net.devices) t.1 ∙ h
+event_said names edid at (e ∷ events) c d reported t h = ap (λ (x : Config). names_of x.net.devices) t.1 ∙ names_applied at e.event c.net ∙ h
+
+turn_said : (names : List (List ℕ)) (edid : Option Edid) (turn : Turn) (c d : Config) (reported : List ℕ) → (t : IsTurnBy (Trace edid) turn c reported d) → names_of c.net.devices ≡ names
+    → (names_of d.net.devices ≡ names) × AreSaid names (rounds_by edid turn c reported d t)
+turn_said names edid Stop c d reported t h = absurd t
+turn_said names edid (Apply at) c d reported t h = (event_said names edid at c.events c d reported t h, none_said names)
+turn_said names edid (Round begin) c d reported t h = round_said names edid begin c d reported t h
+
+turns_said : (names : List (List ℕ)) (edid : Option Edid) (end turns : ℕ) (c d : Config) (text : List ℕ) (l : Leads (Trace edid) end turns c text d) → names_of c.net.devices ≡ names
+    → AreSaid names (rounds_in edid end turns c text d l)
+turns_said names edid end zero c d text l h = none_said names
+turns_said names edid end (suc turns) c d text l h =
+    let one = turn_said names edid (turn_at end c) c l.0 l.1 l.3 h in
+    All-append (λ r. IsSaid (Run names) (round_read r).reported) (rounds_by edid (turn_at end c) c l.1 l.0 l.3) (rounds_in edid end turns l.0 l.2 d l.4) one.1
+    (turns_said names edid end turns l.0 d l.2 l.4 one.0)
+
+pub rounds_are_said : RoundsAreSaid
+rounds_are_said topology script text totals p =
+    turns_said (declared_of topology) p.edid p.course.end p.trace.run.turns (start (first_net p.plan.tree p.course.pulses) p.course.events) p.trace.run.last p.trace.run.body p.trace.run.leads
+    (names_started p.plan.tree p.course.pulses ∙ names_are_declared topology p.plan p.accepted.plan_is)
+
+-- ---- patterns that are refused
+
+-- what says so of a round is a text that some pattern without names fits
+unmet : (names : List (List ℕ)) (pattern said : List ℕ) → IsSaid (Run names) said → is_meetable (Run names) pattern ≡ false → meets pattern said ≡ false
+unfolding meets
+unmet names pattern said is h = by (for_names (holds_in (last_word said)) (λ p. fits p said) pattern) refl
+  where
+    by : (b : Bool) → for_names (holds_in (last_word said)) (λ p. fits p said) pattern ≡ b → b ≡ false
+    by false e = refl
+    by true e = absurd (true≢false (sym (names_are_met.only (Run names) pattern said (holds_in (last_word said)) is e) ∙ h))
+
+unseen : (span : TimeSpan) (pattern : List ℕ) (l : RoundLine) → meets pattern l.reported ≡ false → end_by span pattern (Some l) ≡ None
+unseen span pattern l none =
+    ap (λ (m : Bool). if nat_le span.from l.begin && nat_le l.at span.to && m then Some l.at else None) none ∙ never (nat_le span.from l.begin && nat_le l.at span.to)
+  where
+    never : (c : Bool) → (if c && false then Some l.at else None) ≡ None
+    never true = refl
+    never false = refl
+
+not_seen : (names : List (List ℕ)) (pattern : List ℕ) (span : TimeSpan) (rs : List RoundReported) → AreSaid names rs → is_meetable (Run names) pattern ≡ false
+    → filter_map (λ r. end_by span pattern (Some (round_read r))) rs ≡ []
+not_seen names pattern span [] said h = refl
+not_seen names pattern span (r ∷ rs) said h =
+    let none = unmet names pattern (round_read r).reported (said 0 r (omega arith)) h in
+    ap (λ (o : Option ℕ). cons_option o (filter_map (λ r. end_by span pattern (Some (round_read r))) rs)) (unseen span pattern (round_read r) none)
+    ∙ not_seen names pattern span rs (λ k x l. said (suc k) x (omega arith)) h
+
+pub refused_are_never_seen : RefusedAreNeverSeen
+refused_are_never_seen topology script text pattern totals span p small h =
+    (traces_are_read_back topology script text totals p small).seen span pattern
+    ∙ not_seen (declared_of topology) pattern span (rounds_reported topology script text totals p) (rounds_are_said topology script text totals p) h

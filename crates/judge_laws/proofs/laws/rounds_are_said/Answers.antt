@@ -1,0 +1,5 @@
+use Rattle.judge_laws.proofs.Said as lemmas
+use Rattle.judge_laws.proofs.laws.rounds_are_said.Goals as goal
+
+pub returns : goal.returns
+returns c = lemmas.rounds_are_said
