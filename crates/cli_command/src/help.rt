@@ -614,7 +614,7 @@ pub const EDID_FLAGS: &[(&str, &str)] = &[
     ),
     (
         "json",
-        "With --check, prints each line as an object of JSON",
+        "Prints the fields as objects of JSON, or with --check each line",
     ),
     (
         "merge",
@@ -667,7 +667,7 @@ pub const EDID_VALUES: &[(&str, &str, &str)] = &[
 pub const EDID_RULES: &str = "
   of --text, --words and --hex one is given at most, of --raw, --check, --meaning,
   --only-address and --ddc, of --address and --port, and of --eeodb and --as-source
-  --json goes with --check alone
+  --json goes alone or with --check
   --below goes with --port alone, --speakers with --below alone, --nth with
   --hex alone, --rows with --merge alone, which goes with none of --text, --words,
   --nth, --eeodb and --as-source
@@ -739,8 +739,12 @@ With --check the output is a line for each rule that the EDID breaks, `fail RULE
 `fail timing N RULE` with detailed timings counted from 1. Status 5 is for a rule that fails:
   ./hdminet edid --check < tv.edid         fail srgb
                                            warn overscan
-With --json each is an object of JSON, whose first field is that line; then come its type, finding, and its
-severity, the number of the timing or null, and the rule.
+With --check --json each is an object of JSON, whose first field is that line; then come its type, finding, and
+its severity, the number of the timing or null, and the rule.
+
+With --json alone the output is an object for each data block, of the type part, and after it one for each of
+its fields: the block of 128 bytes, the byte and the bits where it stands, its name in the standard's words, its
+value, what that says, and what is found of it, null, reserved or left.
 
 With --address the EDID has that physical address, and with --port the address of that port of the
 device: the EDID that a device there reads. Below an amplifier it has the amplifier's audio:

@@ -11,6 +11,7 @@ use Rattle.cli_words.specs.Form.{form_by}
 use Rattle.cli_words.specs.Joined.{joined}
 use Rattle.cli_words.specs.Rows.{rows_of}
 use Rattle.record_core.specs.declared.cell.Form.{Form}
+use Rattle.record_core.specs.declared.cell.Form.TheVariants as forms
 use Rattle.cli_words.specs.declared.choice.Asked.{Asked}
 use Rattle.cli_words.specs.declared.choice.CommandChoice.TheVariants.{Edid}
 use Rattle.cli_words.specs.declared.choice.EdidReading.TheVariants as readings
@@ -23,7 +24,7 @@ use Rattle.cli_words.specs.declared.choice.Source.TheVariants as sources
 use Rattle.cli_words.specs.declared.choice.EdidShape.{EdidShape}
 use Rattle.cli_words.specs.declared.choice.EdidShape.TheVariants as shapes
 use Rattle.cli_words.specs.declared.choice.View.{View}
-use Rattle.cli_words.specs.declared.choice.View.TheVariants.{Whole, Meaning, Findings, Address, Readout}
+use Rattle.cli_words.specs.declared.choice.View.TheVariants.{Whole, Meaning, Fields, Findings, Address, Readout}
 use Rattle.cli_words.specs.declared.edid_flags.EdidFlags.{EdidFlags}
 use Rattle.cli_words.specs.declared.edid_flags.EdidOutput.{EdidOutput}
 use Rattle.cli_words.specs.declared.edid_flags.EdidOutput.TheVariants as wants
@@ -149,8 +150,12 @@ edid_source flags =
     else one_source flags.source flags.nth
 
 -- what is written
+abbrev pub own_view : Form → Recipient → EdidShape → View
+own_view forms.Text place shape = Whole place shape
+own_view forms.Json place shape = Fields place
+
 abbrev pub edid_view : Option EdidOutput → Form → Recipient → EdidShape → View
-edid_view None form place shape = Whole place shape
+edid_view None form place shape = own_view form place shape
 edid_view (Some wants.Raw) form place shape = Whole place shapes.Bytes
 edid_view (Some wants.Check) form place shape = Findings place form
 edid_view (Some wants.Meaning) form place shape = Meaning place
@@ -159,6 +164,7 @@ edid_view (Some wants.Ddc) form place shape = Readout place
 
 -- the outputs of which there are objects
 abbrev pub has_objects : Option EdidOutput → Bool
+has_objects None = true
 has_objects (Some wants.Check) = true
 has_objects _ = false
 

@@ -153,6 +153,8 @@ pub enum View {
     Whole(Recipient, EdidShape),
     /// Its text for a device, and below each line what it means.
     Meaning(Recipient),
+    /// The fields of it for a device, as objects of JSON.
+    Fields(Recipient),
     /// The rules that it breaks.
     Findings(Recipient, Form),
     /// The physical address in it.

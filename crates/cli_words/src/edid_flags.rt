@@ -1,6 +1,6 @@
 //! The flags of `edid`.
 ghost use Rattle.std.specs.Prelude.{◌≡◌, map, string_bytes, option_and_then};
-ghost use Rattle.cli_words.specs.EdidFlags.{amplified_of, edid_asked, edid_flags, edid_place, edid_sound, edid_source, edid_view, has_objects, nth_of, one_source, own_shape, pair_source, place_by, port_of, spoken_of, waited_edid, with_edid_flag, with_edid_value, with_edid_word};
+ghost use Rattle.cli_words.specs.EdidFlags.{amplified_of, edid_asked, edid_flags, edid_place, edid_sound, edid_source, edid_view, has_objects, nth_of, one_source, own_shape, own_view, pair_source, place_by, port_of, spoken_of, waited_edid, with_edid_flag, with_edid_value, with_edid_word};
 
 use crate::choice::{Asked, CommandChoice, EdidReading, EdidShape, Recipient, Sound, Source, View};
 use crate::form::form_by;
@@ -367,12 +367,22 @@ fn edid_source(flags: &EdidFlags) -> Option<Source>
     one_source(flags.source, flags.nth)
 }
 
+// What is written of the EDID itself.
+fn own_view(form: Form, place: Recipient, shape: EdidShape) -> View
+    ensures { result ≡ own_view form place shape }
+{
+    match form {
+        Form::Text => View::Whole(place, shape),
+        Form::Json => View::Fields(place),
+    }
+}
+
 // What is written.
 fn edid_view(wanted: Option<EdidOutput>, form: Form, place: Recipient, shape: EdidShape) -> View
     ensures { result ≡ edid_view wanted form place shape }
 {
     match wanted {
-        None => View::Whole(place, shape),
+        None => own_view(form, place, shape),
         Some(EdidOutput::Raw) => View::Whole(place, EdidShape::Bytes),
         Some(EdidOutput::Check) => View::Findings(place, form),
         Some(EdidOutput::Meaning) => View::Meaning(place),
@@ -385,7 +395,7 @@ fn edid_view(wanted: Option<EdidOutput>, form: Form, place: Recipient, shape: Ed
 fn has_objects(wanted: Option<EdidOutput>) -> bool
     ensures { result ≡ has_objects wanted }
 {
-    matches!(wanted, Some(EdidOutput::Check))
+    matches!(wanted, None | Some(EdidOutput::Check))
 }
 
 /// What `edid` with these flags asks for.

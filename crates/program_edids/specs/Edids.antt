@@ -1,6 +1,7 @@
 -- What is written of an EDID (own).
 use Rattle.std.specs.Prelude.{◌≡◌, ℕ, ◌+◌, ◌*◌, Bool, true, false, nat_lt, List, [], length, take, drop, Option, Some, Ok, if◌then◌else◌, slice_index}
 use Rattle.std.specs.Io.KnownBytes.{Appends}
+use Rattle.conversion_fields.specs.Blocks.{extensions_text}
 use Rattle.conversion_notes.specs.EdidMeaning.{meaning_of}
 use Rattle.conversion_notes.specs.Meanings.{plain_text}
 use Rattle.edid_core.specs.Bytes.{edid_bytes}
@@ -47,7 +48,7 @@ use Rattle.cli_words.specs.declared.choice.Sound.TheVariants.{Kept, Amplified, S
 use Rattle.cli_words.specs.declared.choice.Source.{Source}
 use Rattle.cli_words.specs.declared.choice.Source.TheVariants as sources
 use Rattle.cli_words.specs.declared.choice.View.{View}
-use Rattle.cli_words.specs.declared.choice.View.TheVariants.{Whole, Meaning, Findings, Address, Readout}
+use Rattle.cli_words.specs.declared.choice.View.TheVariants.{Whole, Meaning, Fields, Findings, Address, Readout}
 
 abbrev pub form_of : EdidShape → EdidForm
 form_of shapes.Text = forms.Text
@@ -92,9 +93,12 @@ IsGiven (Port port sound) bytes given = (e : Edid) × IsInPort port sound bytes 
 
 -- ---- what is written
 
--- what the lines of an EDID's text mean, the address in it, and what is read of it over DDC
+-- what the lines of an EDID's text mean, its fields, the address in it, and what is read of it over DDC
 abbrev pub IsMeant : List ℕ → List ℕ → Type 0
 IsMeant bytes text = (e : Edid) × (edid_bytes e ≡ bytes) × (text ≡ meaning_of e)
+
+abbrev pub AreFields : List ℕ → List ℕ → Type 0
+AreFields bytes text = (e : Edid) × (edid_bytes e ≡ bytes) × (text ≡ extensions_text 1 e.extensions.items)
 
 abbrev pub IsAddress : List ℕ → List ℕ → Type 0
 IsAddress bytes text = (a : Phys) × Reports bytes (Some a) × (text ≡ address_line a)
@@ -114,9 +118,14 @@ IsFoundIn origin form bytes text = (e : Edid) × (edid_bytes e ≡ bytes) × IsF
 abbrev pub IsShown : View → List ℕ → List ℕ → Type 0
 IsShown (Whole place shape) bytes text = (e : Edid) × IsFor place bytes e × (text ≡ form_text (form_of shape) e)
 IsShown (Meaning place) bytes text = (given : List ℕ) × IsGiven place bytes given × IsMeant given text
+IsShown (Fields place) bytes text = (given : List ℕ) × IsGiven place bytes given × AreFields given text
 IsShown (Findings place form) bytes text = (given : List ℕ) × IsGiven place bytes given × IsFoundIn (origin_of place) form given text
 IsShown (Address place) bytes text = (given : List ℕ) × IsGiven place bytes given × IsAddress given text
 IsShown (Readout place) bytes text = (given : List ℕ) × IsGiven place bytes given × IsReadout given text
+
+-- The fields of the EDID of some bytes are written.
+abbrev pub ShowsFields : List ℕ → Option (List ℕ) → Option (List ℕ) → Type 0
+ShowsFields bytes old new = (text : List ℕ) × AreFields bytes text × Appends old new text
 
 abbrev pub ShowsFound : Origin → Form → Base → List Ext → Option (List ℕ) → Option (List ℕ) → Type 0
 ShowsFound origin form base extensions old new = (text : List ℕ) × IsFound origin form base extensions text × Appends old new text
@@ -145,6 +154,7 @@ IsShownCounted count (Whole place shapes.Bytes) bytes text = (new : List ℕ) ×
 IsShownCounted count (Readout place) bytes text = (new : List ℕ) × IsRecounted count place bytes new × (text ≡ readout_text new)
 IsShownCounted count (Whole place shapes.Text) bytes text = IsShown (Whole place shapes.Text) bytes text
 IsShownCounted count (Meaning place) bytes text = IsShown (Meaning place) bytes text
+IsShownCounted count (Fields place) bytes text = IsShown (Fields place) bytes text
 IsShownCounted count (Findings place form) bytes text = (given : List ℕ) × IsGiven place bytes given × IsJudged (origin_of place) form count bytes given text
 IsShownCounted count (Address place) bytes text = IsShown (Address place) bytes text
 

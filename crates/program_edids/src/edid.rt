@@ -9,6 +9,7 @@ ghost use Rattle.conversion_calls.specs.Passing.{IsPassedOn};
 ghost use Rattle.edid_ddc.specs.Readout.{readout_text};
 ghost use Rattle.conversion_calls.specs.Form.{hex_line};
 
+use crate::edid_described::write_own_fields;
 use crate::edid_fault::EdidFault;
 use crate::edid_given::{given_of, kept_count};
 use crate::edid_judged::{write_counted_rules, write_own_rules};
@@ -276,6 +277,14 @@ impl Blocks<'_> {
         Ok(edid_to_meaning(given.as_slice(), out)?)
     }
 
+    // Writes the fields of the EDID, for a device.
+    fn write_fields<W: Sink>(self, place: Recipient, out: &mut W) -> Result<(), EdidFault>
+        ensures { OnOk result (Shows (View.Fields place) self.entry.bytes.now (W.contents out.old) (W.contents out.new)) }
+    {
+        let given = given_to(self.alloc, place, self.bytes)?;
+        write_own_fields(given.as_slice(), out)
+    }
+
     // Writes the address in the EDID, for a device.
     fn write_place<W: Sink>(self, place: Recipient, out: &mut W) -> Result<(), EdidFault>
         ensures { OnOk result (Shows (View.Address place) self.entry.bytes.now (W.contents out.old) (W.contents out.new)) }
@@ -302,6 +311,7 @@ impl Blocks<'_> {
             View::Whole(place, shape) => self.write_whole(place, shape, out),
             View::Findings(place, form) => self.write_rules(place, form, out),
             View::Meaning(place) => self.write_meaning(place, out),
+            View::Fields(place) => self.write_fields(place, out),
             View::Address(place) => self.write_place(place, out),
             View::Readout(place) => self.write_ddc(place, out),
         }
@@ -406,6 +416,7 @@ impl Blocks<'_> {
             View::Whole(place, shape) => self.show_counted_whole(count, place, shape, out),
             View::Findings(place, form) => self.check_counted(count, place, form, out),
             View::Meaning(place) => self.write_meaning(place, out),
+            View::Fields(place) => self.write_fields(place, out),
             View::Address(place) => self.write_place(place, out),
             View::Readout(place) => self.write_counted_ddc(count, place, out),
         }

@@ -2,6 +2,7 @@
 #![tactic(auto)]
 
 pub mod edid;
+mod edid_described;
 mod edid_explained;
 mod edid_fault;
 mod edid_given;

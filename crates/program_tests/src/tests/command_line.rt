@@ -243,7 +243,7 @@ edid --port 1 --address 1.0.0.0
 edid --below amp
 edid --port 1 --below tv
 edid --raw --check
-edid --json
+edid --raw --json
 edid --meaning --json
 edid --check --json --json
 edid --nth 1

@@ -234,11 +234,35 @@ fn writes_the_rules_as_objects(rt: HostRuntime) {
     gives(&rt, "edid --check --json", "no rule", &bytes, "");
 }
 
+/// The front of an extension, its checksum, and the objects of its data blocks and their fields.
+const OBJECTS: &[(&str, &str, &str)] = &[
+    ("020304f1", "06", ""),
+    (
+        "020306f1e178",
+        "ab",
+        r#"{"type":"part","block":1,"byte":4,"bytes":"e178","name":"HDMI Forum EDID Extension Override Data Block","cut":1,"left":0}
+{"type":"field","block":1,"byte":4,"high":7,"low":5,"name":"Tag Code","value":7,"meaning":"extended","found":null}
+{"type":"field","block":1,"byte":4,"high":4,"low":0,"name":"Length","value":1,"meaning":"","found":null}
+{"type":"field","block":1,"byte":5,"high":7,"low":0,"name":"Extended Tag Code","value":120,"meaning":"HDMI Forum EDID Extension Override Data Block","found":null}
+"#,
+    ),
+];
+
+#[test]
+fn writes_the_fields_as_objects(rt: HostRuntime) {
+    for (front, checksum, objects) in OBJECTS {
+        let bytes = bytes_of(&rt, blocks(&rt, front, checksum).as_str());
+        gives(&rt, "edid --json", front, &bytes, objects);
+        gives(&rt, "edid --json --eeodb", front, &bytes, objects);
+    }
+}
+
 /// Flags, and why an input of one byte, or a display without an HDMI block, is refused.
 const REFUSED: &str = "\
 --check => edid: length
 --raw => edid: length
 --meaning => edid: length
+--json => edid: length
 --only-address => edid: length
 --address 1.0.0.0 => edid: length
 --port 1 --below amp --check => edid: length

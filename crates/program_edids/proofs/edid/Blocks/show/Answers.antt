@@ -8,6 +8,11 @@ returns-in-Meaning g c =
     let Q : View → Type 0 = λ v. OnOk c.write_meaning.result (Shows v c.args.self.bytes.now (g.W.Sink.contents c.args.out.now) (g.W.Sink.contents c.write_meaning.new.out)) in
     subst Q (sym c.in-Meaning.is) c.write_meaning.ensures
 
+pub returns-in-Fields : goal.returns-in-Fields
+returns-in-Fields g c =
+    let Q : View → Type 0 = λ v. OnOk c.write_fields.result (Shows v c.args.self.bytes.now (g.W.Sink.contents c.args.out.now) (g.W.Sink.contents c.write_fields.new.out)) in
+    subst Q (sym c.in-Fields.is) c.write_fields.ensures
+
 pub returns-in-Address : goal.returns-in-Address
 returns-in-Address g c =
     let Q : View → Type 0 = λ v. OnOk c.write_place.result (Shows v c.args.self.bytes.now (g.W.Sink.contents c.args.out.now) (g.W.Sink.contents c.write_place.new.out)) in
