@@ -1,5 +1,8 @@
-// A run beside another one: the rows of both in order, aligned by what they say, without their times.
+// A run beside another one: the rows of both in order, aligned by what they say, without their times. And an EDID beside another
+// one, by its stretches.
 
+import { spanOf } from './bytes.js';
+import { hexOf, titleOf } from './edid.js';
 import { counted, html, link, seconds, table } from './elements.js';
 
 const MOST = 1500; // rows after the first difference that are aligned
@@ -8,14 +11,18 @@ const ALIKE = 2; // rows that are shown before and after a difference
 const isCompared = row => row.type === 'round' || row.type === 'event';
 const saidOf = row => row.o.line.replace(/^\d+ (\d+ )?/, '');
 
+/* A model beside another one: of EDIDs their stretches, of runs their rows. */
+export function besideOf(model, other) {
+  if (model.edid && other.edid) return aligned(model.edid.stretches, other.edid.stretches, stretchSays);
+  return aligned(model.rows.filter(isCompared), other.rows.filter(isCompared), saidOf);
+}
 /* Pairs of rows, each of one run or of both: the longest common order of what they say. */
-export function aligned(first, second) {
-  const [a, b] = [first.filter(isCompared), second.filter(isCompared)];
+function aligned(a, b, wordsOf) {
   const pairs = [];
   let same = 0;
-  while (same < a.length && same < b.length && saidOf(a[same]) === saidOf(b[same])) pairs.push([a[same], b[same++]]);
+  while (same < a.length && same < b.length && wordsOf(a[same]) === wordsOf(b[same])) pairs.push([a[same], b[same++]]);
   const [left, right] = [a.slice(same, same + MOST), b.slice(same, same + MOST)];
-  const [wordsLeft, wordsRight] = [left.map(saidOf), right.map(saidOf)];
+  const [wordsLeft, wordsRight] = [left.map(wordsOf), right.map(wordsOf)];
   const wide = right.length + 1;
   const common = new Uint16Array((left.length + 1) * wide); // of what is left from each place on
   for (let i = left.length - 1; i >= 0; i--) {
@@ -33,7 +40,65 @@ export function aligned(first, second) {
   return { pairs, same, isWhole: a.length - same <= MOST && b.length - same <= MOST };
 }
 
+const stretchSays = stretch => `${titleOf(stretch)} ${hexOf(stretch.bytes)}`;
+const kindOfStretch = ({ lines, name }) => (lines.length > 0 ? lines[0].word : name);
+
+/* The same pairs, but where both have a stretch of a kind in the place of one another, these are a pair. */
+function tied(pairs) {
+  const found = [];
+  let [lefts, rights] = [[], []];
+  const flush = () => {
+    for (const one of lefts) {
+      const i = rights.findIndex(other => kindOfStretch(other) === kindOfStretch(one));
+      const before = rights.splice(0, i + 1);
+      const other = before.pop() || null;
+      found.push(...before.map(each => [null, each]), [one, other]);
+    }
+    found.push(...rights.map(other => [null, other]));
+    [lefts, rights] = [[], []];
+  };
+  for (const [one, other] of pairs) {
+    if (one && other) {
+      flush();
+      found.push([one, other]);
+    } else if (one) lefts.push(one);
+    else rights.push(other);
+  }
+  flush();
+  return found;
+}
+
+/* The bytes that one of two EDIDs alone has so: by pairs of their stretches, the first of each or the second. */
+export function differing(pairs, which) {
+  const bytes = new Set();
+  for (const pair of tied(pairs)) {
+    const [one, other] = [pair[which], pair[1 - which]];
+    const isLong = other && one && other.bytes.length !== one.bytes.length;
+    const isSame = i => other && !isLong && other.bytes[i] === one.bytes[i];
+    if (one) one.bytes.forEach((_, i) => !isSame(i) && bytes.add(one.from + i));
+  }
+  return bytes;
+}
+
+/* Two EDIDs beside each other: the bytes of the other one, and the stretches that differ. */
+function drawEdidsBeside(app, model) {
+  const pairs = tied(app.besideOf(model).pairs);
+  const meant = line => line.meanings.map(meaning => html('div', { class: 'meaning' }, meaning));
+  const said = stretch => (stretch ? [html('code', {}, titleOf(stretch)), stretch.lines.map(meant)] : '');
+  const place = stretch => (stretch && stretch.to > stretch.from
+    ? link(spanOf(stretch), () => app.map.select(stretch.from, { keepsPanel: true })) : '');
+  const differs = pairs.filter(([one, other]) => !one || !other || stretchSays(one) !== stretchSays(other));
+  const differ = `${counted(differs.length, 'stretch', 'stretches')} differ. In the maps these bytes are underlined.`;
+  const rows = differs.map(([one, other]) => [place(one), said(one), other ? spanOf(other) : '', said(other)]);
+  return [
+    html('h3', {}, app.other.title), app.mapBeside.root,
+    html('p', {}, differs.length === 0 ? 'Both have the same bytes.' : differ),
+    html('div', { class: 'wide' }, table(rows, ['', model.title, '', app.other.title])),
+  ];
+}
+
 export function drawBeside(app, model) {
+  if (model.edid && app.other.edid) return drawEdidsBeside(app, model);
   const { pairs, same, isWhole } = app.besideOf(model);
   const differs = pairs.map(([one, other]) => !one || !other);
   const first = differs.indexOf(true);
