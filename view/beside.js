@@ -13,16 +13,16 @@ const saidOf = row => row.o.line.replace(/^\d+ (\d+ )?/, '');
 
 /* A model beside another one: of EDIDs their stretches, of runs their rows. */
 export function besideOf(model, other) {
-  if (model.edid && other.edid) return aligned(model.edid.stretches, other.edid.stretches, stretchSays);
-  return aligned(model.rows.filter(isCompared), other.rows.filter(isCompared), saidOf);
+  if (model.edid && other.edid) return { pairs: edidsAligned(model.edid, other.edid) };
+  return aligned(model.rows.filter(isCompared), other.rows.filter(isCompared));
 }
 /* Pairs of rows, each of one run or of both: the longest common order of what they say. */
-function aligned(a, b, wordsOf) {
+function aligned(a, b) {
   const pairs = [];
   let same = 0;
-  while (same < a.length && same < b.length && wordsOf(a[same]) === wordsOf(b[same])) pairs.push([a[same], b[same++]]);
+  while (same < a.length && same < b.length && saidOf(a[same]) === saidOf(b[same])) pairs.push([a[same], b[same++]]);
   const [left, right] = [a.slice(same, same + MOST), b.slice(same, same + MOST)];
-  const [wordsLeft, wordsRight] = [left.map(wordsOf), right.map(wordsOf)];
+  const [wordsLeft, wordsRight] = [left.map(saidOf), right.map(saidOf)];
   const wide = right.length + 1;
   const common = new Uint16Array((left.length + 1) * wide); // of what is left from each place on
   for (let i = left.length - 1; i >= 0; i--) {
@@ -41,37 +41,24 @@ function aligned(a, b, wordsOf) {
 }
 
 const stretchSays = stretch => `${titleOf(stretch)} ${hexOf(stretch.bytes)}`;
-const kindOfStretch = ({ lines, name }) => (lines.length > 0 ? lines[0].word : name);
+const kindOfStretch = ({ lines, name, part }) => (part || lines.length === 0 ? name : lines[0].word);
 
-/* The same pairs, but where both have a stretch of a kind in the place of one another, these are a pair. */
-function tied(pairs) {
-  const found = [];
-  let [lefts, rights] = [[], []];
-  const flush = () => {
-    for (const one of lefts) {
-      const i = rights.findIndex(other => kindOfStretch(other) === kindOfStretch(one));
-      const before = rights.splice(0, i + 1);
-      const other = before.pop() || null;
-      found.push(...before.map(each => [null, each]), [one, other]);
-    }
-    found.push(...rights.map(other => [null, other]));
-    [lefts, rights] = [[], []];
+/* Pairs of stretches, each of one EDID or of both: those that say the same, wherever they stand, then those of a kind. */
+function edidsAligned(one, other) {
+  const rest = [...other.stretches];
+  const take = isWanted => {
+    const i = rest.findIndex(isWanted);
+    return i < 0 ? null : rest.splice(i, 1)[0];
   };
-  for (const [one, other] of pairs) {
-    if (one && other) {
-      flush();
-      found.push([one, other]);
-    } else if (one) lefts.push(one);
-    else rights.push(other);
-  }
-  flush();
-  return found;
+  const pairs = one.stretches.map(stretch => [stretch, take(each => stretchSays(each) === stretchSays(stretch))]);
+  for (const pair of pairs) pair[1] ||= take(each => kindOfStretch(each) === kindOfStretch(pair[0]));
+  return [...pairs, ...rest.map(stretch => [null, stretch])];
 }
 
-/* The bytes that one of two EDIDs alone has so: by pairs of their stretches, the first of each or the second. */
+/* The bytes that one of two EDIDs has otherwise than the other: of pairs of their stretches the first of each, or the second. */
 export function differing(pairs, which) {
   const bytes = new Set();
-  for (const pair of tied(pairs)) {
+  for (const pair of pairs) {
     const [one, other] = [pair[which], pair[1 - which]];
     const isLong = other && one && other.bytes.length !== one.bytes.length;
     const isSame = i => other && !isLong && other.bytes[i] === one.bytes[i];
@@ -82,7 +69,7 @@ export function differing(pairs, which) {
 
 /* Two EDIDs beside each other: the bytes of the other one, and the stretches that differ. */
 function drawEdidsBeside(app, model) {
-  const pairs = tied(app.besideOf(model).pairs);
+  const { pairs } = app.besideOf(model);
   const meant = line => line.meanings.map(meaning => html('div', { class: 'meaning' }, meaning));
   const said = stretch => (stretch ? [html('code', {}, titleOf(stretch)), stretch.lines.map(meant)] : '');
   const place = stretch => (stretch && stretch.to > stretch.from
@@ -93,7 +80,7 @@ function drawEdidsBeside(app, model) {
   return [
     html('h3', {}, app.other.title), app.mapBeside.root,
     html('p', {}, differs.length === 0 ? 'Both have the same bytes.' : differ),
-    html('div', { class: 'wide' }, table(rows, ['', model.title, '', app.other.title])),
+    html('div', { class: 'differences' }, table(rows, ['', model.title, '', app.other.title])),
   ];
 }
 

@@ -110,8 +110,9 @@ function bytesOf(finding, edid) {
   const part = digits && parts.find(one => hexOf(one.bytes.slice(1)) === digits.replace('-', ''));
   if (part && byte) return [part.from + 1 + Number(byte)];
   if (part) {
-    const kind = finding.line.endsWith('reserved') ? 'reserved' : 'left';
-    const found = part.fields.filter(field => field.found === kind).map(({ at }) => at);
+    const [, kind] = /(reserved|length)$/.exec(finding.line) || [];
+    const isFound = field => field.found !== '' && field.found === { reserved: 'reserved', length: 'left' }[kind];
+    const found = part.fields.filter(isFound).map(({ at }) => at);
     return found.length > 0 ? found : all(part);
   }
   const same = lines.find(line => line.text === here);

@@ -370,8 +370,8 @@ class App {
       click: () => this.openPanel(name),
     }, panel.name);
     byId('tabs').replaceChildren(...Object.entries(PANELS).filter(([, panel]) => panel.isThere(model)).map(tab));
-    const isEmpty = [model.rows, model.faults, model.tests, model.stretches, model.meanings, model.bytes, model.parts, model.findings]
-      .every(list => list.length === 0);
+    const { rows, faults, tests, stretches, meanings, findings } = model;
+    const isEmpty = !model.edid && [rows, faults, tests, stretches, meanings, findings].every(list => list.length === 0);
     const content = isEmpty ? [html('p', { class: 'dim' }, 'No data yet.')] : PANELS[this.panel].draw(this, model);
     byId('panel').replaceChildren(html('div', {}, content));
     const counts = new Map();
