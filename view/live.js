@@ -121,6 +121,7 @@ async function run(keeps) {
     if (mine !== state.asked) return;
     if (keeps) backTo(before);
     fields.hidden = !app.model.isCapture;
+    copying.hidden = Boolean(app.model.edid);
     said.textContent = `run in ${found.took} ms, drawn in ${Math.round(performance.now() - began - found.took)} ms`;
   }
   markLines();

@@ -393,8 +393,8 @@ function drawTalk(app, model) {
 
 /* The physical address in an EDID in hex: what follows the registration of HDMI's vendor block. */
 function physicalIn(edid) {
-  const i = edid.indexOf('030c00');
-  return i < 0 ? 'none' : [...edid.slice(i + 6, i + 10)].join('.');
+  const found = /^(?:..)*?030c00(....)/.exec(edid);
+  return found ? [...found[1]].join('.') : 'none';
 }
 function drawEdids(app, model) {
   const first = model.ports[0];
