@@ -1118,9 +1118,13 @@ def bytes_are_reached(t, b):
     load_edid(b, page_edids.odd_edid(), page_edids.ODD, page_edids.ODD_FOUND)
     t.same("the map is in the chart's place", b.js("['chart', 'bytes', 'strip', 'wave'].map(id => document.getElementById(id).hidden)"),
            [True, False, True, True])
+    at = "[hdminet.app.map.at, Number(document.activeElement.dataset.at)]"
+    b.js("document.activeElement.blur()")
+    b.key("n")
+    t.same("n from anywhere", b.js(at), [133] * 2)
+    load_edid(b, page_edids.odd_edid(), page_edids.ODD, page_edids.ODD_FOUND)
     b.js("document.activeElement.blur()")
     b.key("c")
-    at = "[hdminet.app.map.at, Number(document.activeElement.dataset.at)]"
     for keys, wanted in [(["ArrowRight"], 1), (["ArrowDown"], 17), (["ArrowUp", "ArrowLeft"], 0), (["ArrowUp"], 0), (["End"], 255),
                          (["ArrowDown"], 255), (["Home"], 0), (["PageDown"], 8), (["PageDown"], 10), (["PageUp"], 8), (["n"], 133),
                          (["n"], 134), (["n"], 138), (["n"], 138), (["N"], 137)]:
@@ -1173,8 +1177,16 @@ def bytes_are_reached(t, b):
     t.same("the other one has a reading of its own", b.js("[hdminet.app.map.at, hdminet.app.mapBeside.reading.textContent.slice(0, 3)]"), [None, "085"])
     subprocess.run([os.path.join(TOP, "tools/page"), paths[0], "--beside", paths[0], "-o", page], check=True)
     b.open(page)
-    t.same("an EDID beside itself", b.js("[document.querySelectorAll('.differs').length, document.querySelector('#panel p:not(.dim)').textContent]"),
-           [0, "Both have the same bytes."])
+    alike = "[document.querySelectorAll('.differs').length, document.querySelector('#panel p:not(.dim)').textContent]"
+    t.same("an EDID beside itself", b.js(alike), [0, "Both say the same."])
+    # The same with audio and speakers in the other order
+    pages = [page_edids.Edid(*told, edid_told(told[0], "--meaning")[0]) for told in
+             ((page_edids.example_edid(), page_edids.LIVING_ROOM), page_edids.moved_edid())]
+    texts = [{"name": "x", "text": text, "size": len(text), "wave": False} for edid in pages
+             for text in (edid.meaning, edid.data.hex(), edid.objects())]
+    readings = [{"texts": places, "how": {}, "said": [], "frames": 0, "flags": "", "beside": places[0] > 0} for places in ([0, 1, 2], [3, 4, 5])]
+    b.js(f"hdminet.app.openData({json.dumps({'title': 'x', 'first': 0, 'readings': readings, 'texts': texts})})")
+    t.same("an EDID beside the same with two data blocks exchanged", b.js(alike), [0, "Both say the same."])
 
 
 def bytes_fit(t, b):
@@ -1229,8 +1241,9 @@ def bytes_fit(t, b):
     try:
         boxes = b.js("['#bytes .cell:last-child', '#panel', 'aside'].map(one => getComputedStyle(document.querySelector(one)).display)")
         t.holds("bytes and their meaning are printed", "none" not in boxes, boxes)
-        t.same("none is cut off", b.js("['.grids', '#panel'].map(one => document.querySelector(one)).map(one => one.scrollHeight <= one.clientHeight + 1)"),
-               [True, True])
+        # What scrolls is not cut into pages
+        t.same("none is cut off", b.js("['.grids', '#panel', 'main'].map(one => getComputedStyle(document.querySelector(one)).overflow)"),
+               ["visible"] * 3)
         b.call("Page.printToPDF", paperWidth=8.3, paperHeight=11.7)
     finally:
         b.call("Emulation.setEmulatedMedia", media="")
@@ -1300,6 +1313,8 @@ def live_bytes_are_run(t, b):
         hexes = "hdminet.app.map.cells.map(cell => cell.textContent).join('')"
         t.same("the text and its bytes", [b.js("hdminet.live.area.value"), b.js(hexes)], [text, data.hex()])
         b.js("hdminet.app.map.select(144)")
+        until(b, "location.hash === '#byte=144'", 10)
+        b.js("history.replaceState(null, '', location.pathname)")  # else the address selects it
         draw = random.Random("edids")
         for number in range(8):
             edited = text.replace("product 258", f"product {draw.randrange(65536)}").replace("gamma 120", f"gamma {draw.randrange(256)}")
@@ -1533,6 +1548,9 @@ def files_may_be_dropped(t, b):
          " data.items.add(new File([bytes], 'tv.edid'));"
          " document.dispatchEvent(new DragEvent('drop', { dataTransfer: data, bubbles: true, cancelable: true })); })()")
     t.holds("dropped: an EDID's bytes", until(b, "testing.app.map.cells.length === 256", 10))
+    drop("tv.fields", page_edids.Edid(page_edids.example_edid(), page_edids.LIVING_ROOM, "").objects())
+    t.same("its fields are added, and lines of another EDID are named", b.js("(m => [m.rounds.length, m.parts.length, m.faults])"
+           "(testing.app.model)"), [6, 5, ["x.meaning: the lines of another EDID than the bytes"]])
     t.same("they stand in the panel beside a run", b.js("[testing.app.openPanel('edids'), !!document.querySelector('#panel .grids'),"
            " document.getElementById('bytes').hidden].slice(1)"), [True, True])
     # A session of `live` as it is: what it showed of its devices is so from then on

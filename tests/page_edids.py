@@ -130,6 +130,16 @@ def odd_edid():
     return mended(example_edid()[:128] + front + bytes(128 - len(front)))
 
 
+def moved_edid():
+    """A living room's EDID with its audio and its speakers exchanged, and its rows."""
+    data = example_edid()
+    data = data[:137] + data[141:145] + data[137:141] + data[145:]
+    parts = re.split("^(?=part )", LIVING_ROOM, flags=re.M)[1:]
+    move = {at: at + 4 for at in range(9, 13)} | {at: at - 4 for at in range(13, 17)}
+    moved = [re.sub(r"^(part|field) (\d+)", lambda one: f"{one[1]} {move.get(int(one[2]), int(one[2]))}", part, flags=re.M) for part in parts]
+    return data, "".join([moved[0], moved[2], moved[1], *moved[3:]])
+
+
 def wrong_edid():
     data = bytearray(example_edid() + bytes([0x99]) + bytes(127))
     for at, byte in WRONG:
@@ -172,7 +182,7 @@ class Edid:
     """An EDID: its bytes, its lines with what they mean, its parts, what is found."""
 
     def __init__(self, data, rows, meaning):
-        self.data, self.parts = data, []
+        self.data, self.meaning, self.parts = data, meaning, []
         for line in rows.splitlines():
             if line.startswith("part "):
                 self.parts.append(Part(line))

@@ -79,7 +79,7 @@ function drawEdidsBeside(app, model) {
   const rows = differs.map(([one, other]) => [place(one), said(one), other ? spanOf(other) : '', said(other)]);
   return [
     html('h3', {}, app.other.title), app.mapBeside.root,
-    html('p', {}, differs.length === 0 ? 'Both have the same bytes.' : differ),
+    html('p', {}, differs.length === 0 ? 'Both say the same.' : differ),
     html('div', { class: 'differences' }, table(rows, ['', model.title, '', app.other.title])),
   ];
 }

@@ -281,13 +281,6 @@ export class ByteMap {
     const { stretches, owners } = this.edid;
     const withBytes = stretches.filter(one => one.to > one.from);
     const beside = way => go((withBytes[withBytes.indexOf(owners[now]) + way] || { from: way < 0 ? 0 : last }).from);
-    const isOdd = at => this.cells[at].matches('.fails, .warns, .odd');
-    const next = way => {
-      for (let at = now + way; at >= 0 && at <= last; at += way) {
-        if (isOdd(at) && owners[at] !== owners[now]) return go(at);
-      }
-      return this.app.say('no further one');
-    };
     const keys = {
       ArrowRight: () => go(now + 1),
       ArrowLeft: () => go(now - 1),
@@ -298,13 +291,23 @@ export class ByteMap {
       Home: () => go(0),
       End: () => go(last),
       Enter: () => go(now),
-      n: () => next(1),
-      N: () => next(-1),
+      n: () => this.next(1),
+      N: () => this.next(-1),
     };
     if (!Object.hasOwn(keys, event.key)) return;
     keys[event.key]();
     event.preventDefault();
     event.stopPropagation();
+  }
+  /* To the next or the previous stretch in which a byte is odd. */
+  next(way) {
+    const { owners } = this.edid;
+    const now = this.at ?? 0;
+    const isOdd = at => this.cells[at].matches('.fails, .warns, .odd');
+    for (let at = now + way; at >= 0 && at < this.cells.length; at += way) {
+      if (isOdd(at) && owners[at] !== owners[now]) return this.select(at);
+    }
+    return this.app.say('no further one');
   }
   /* How many bytes stand in a row: half of them in a narrow window. */
   get perRow() {

@@ -33,7 +33,7 @@ function placeLines(lines, { parts, bytes }) {
       if (lines[i - 1].word !== 'timing') at = first + Math.max(bytes[first + 2] || 0, 4);
       put(line, at, line.word === 'tail' ? first + BLOCK - 1 : at + TIMING);
     } else {
-      const part = blocks.shift();
+      const part = (line.part = blocks.shift() || null);
       put(line, part ? part.from : at, part ? part.to : at);
     }
   });
@@ -130,15 +130,25 @@ function bytesOf(finding, edid) {
   return [];
 }
 
+/* Whether a line has other bytes than the data block at its place: it is of another EDID. */
+function isOther({ text, part }) {
+  const [, payload] = /^[a-z]+\d? ([0-9a-f]+)$/.exec(text) || [];
+  return Boolean(part && payload) && hexOf(part.bytes.slice(1)) !== payload;
+}
+
 /* The EDID of a model, or null where it has none: of several texts the first. */
-export function edidOf({ bytes, parts, meanings, findings }) {
+export function edidOf(model) {
+  const { bytes, parts, meanings, findings } = model;
   if (bytes.length === 0 && parts.length === 0) return null;
   const known = [...bytes];
   for (const part of parts) part.bytes.forEach((byte, i) => (known[part.from + i] ??= byte));
   const count = Math.ceil(known.length / BLOCK) * BLOCK;
+  const all = Array.from({ length: count }, (_, at) => known[at] ?? null);
+  const edid = { bytes: all, lines: [], parts, owners: [], stretches: [] };
   const lines = meanings.length > 0 ? readMeaning(meanings[0].text) : [];
-  const edid = { bytes: Array.from({ length: count }, (_, at) => known[at] ?? null), lines, parts, owners: [], stretches: [] };
   placeLines(lines, edid);
+  if (lines.some(isOther)) model.faults.push(`${meanings[0].name}: the lines of another EDID than the bytes`);
+  else edid.lines = lines;
   ({ owners: edid.owners, stretches: edid.stretches } = stretchesOf(edid));
   for (const finding of findings) {
     finding.bytes = bytesOf(finding, edid).filter(at => at < count);

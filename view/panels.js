@@ -413,7 +413,7 @@ function drawEdids(app, model) {
   return [
     isBeside && app.map.root, app.map.panel(model.findings),
     model.ports.map(port), model.ports.length > 1 && dim('Red: bytes that the first one has otherwise.'),
-    model.meanings.slice(model.edid ? 1 : 0).map(meaning),
+    model.meanings.slice(model.edid && model.edid.lines.length > 0 ? 1 : 0).map(meaning),
   ];
 }
 

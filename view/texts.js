@@ -24,6 +24,9 @@ export function kindOf(text) {
 /* Whether objects are those of an audit: beside a run they tell of its rounds. */
 export const isAudit = text => kindOf(text) === 'objects' && /"type":"(summary|remark|note)"/.test(text);
 
+/* Whether objects are those of an EDID: its fields, or the rules that it breaks. */
+export const isOfBytes = text => kindOf(text) === 'objects' && /"type":"(part|finding)"/.test(text.slice(0, 2000));
+
 export const asText = value => (value === null || value === undefined ? '' : String(value));
 const asNumber = value => (typeof value === 'number' && Number.isFinite(value) ? value : null);
 export const asList = value => (Array.isArray(value) ? value : []);
@@ -63,7 +66,7 @@ export function readFindings(text, model) {
   }
 }
 
-const NO_PLACE = { from: 0, to: 0 };
+const NO_PLACE = { part: null, from: 0, to: 0 };
 /* The lines of `edid --meaning`, each with those below it that say what it means. */
 export function readMeaning(text) {
   const lines = [];

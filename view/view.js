@@ -9,7 +9,7 @@ import { addWave, build, isWave } from './model.js';
 import { commands, drawSweep, help, PANELS } from './panels.js';
 import { acknowledgersOf, slotsOf } from './slots.js';
 import { nearest, Strip, timeInAddress } from './strip.js';
-import { asText, isAudit, kindOf, readDump } from './texts.js';
+import { asText, isAudit, isOfBytes, kindOf, readDump } from './texts.js';
 import { meaningOf } from './words.js';
 import { Wave, wavesHeight } from './wave.js';
 
@@ -192,7 +192,7 @@ class App {
     const isEmpty = model.rounds.length === 0 && !model.wave && !this.isWaiting;
     for (const id of ['wave', 'wave-bar', 'strip']) byId(id).hidden = isEmpty;
     this.map.show(model.edid);
-    const isOfEdid = Boolean(model.edid) && model.rows.length === 0 && model.tests.length + model.stretches.length === 0;
+    const { isOfEdid } = this;
     document.body.classList.toggle('edid', isOfEdid);
     byId('chart').hidden = isOfEdid;
     byId('bytes').hidden = !isOfEdid;
@@ -205,6 +205,11 @@ class App {
     if (failure) this.showTest(failure);
     else this.drawPanel();
     if (isThere) this.goToAddress();
+  }
+  /* Whether the map of an EDID's bytes stands in the place of the chart. */
+  get isOfEdid() {
+    const { edid, rows, tests, stretches } = this.model;
+    return Boolean(edid) && rows.length + tests.length + stretches.length === 0;
   }
   countsText() {
     const { rounds, tests, faults, edid, findings } = this.model;
@@ -240,14 +245,16 @@ class App {
     const texts = await Promise.all([...files].map(async file => ({ name: file.name, text: await readFile(file) })));
     if (texts.length > 0) await this.loadGiven(texts);
   }
-  /* Objects are a new run; anything else, also the audit of a run's line, is added to what is there. */
+  /* Objects are a new run, and bytes another EDID where there is one. Anything else is added to what is there, also the audit of
+     a run's line and the fields of an EDID. */
   loadGiven(texts) {
     this.data = null;
     this.reading = 0;
     this.showBanner();
     const isRun = this.model.rounds.length > 0 && !this.model.isCapture;
-    const isMore = ({ text }) => kindOf(text) !== 'objects' || (isRun && isAudit(text));
-    return this.load(texts, this.texts.length > 0 && texts.every(isMore));
+    const isMore = ({ text }) => kindOf(text) !== 'objects' || isOfBytes(text) || (isRun && isAudit(text));
+    const isAnother = this.model.bytes.length > 0 && texts.some(({ text }) => kindOf(text) === 'bytes');
+    return this.load(texts, this.texts.length > 0 && !isAnother && texts.every(isMore));
   }
   loadPasted(text) {
     if (text.trim()) this.loadGiven([{ name: 'pasted', text }]);
@@ -467,14 +474,15 @@ class App {
     this.wave.drawSoon();
   }
 
-  tooMany() {
+  hasNoPicture() {
     const { length } = this.chart.shown;
+    if (length === 0) this.say('no rows for a picture');
     if (length > MOST_EXPORTED) this.say(`${length} rows are too many for a picture: search first, up to ${MOST_EXPORTED}.`);
-    return length > MOST_EXPORTED;
+    return length === 0 || length > MOST_EXPORTED;
   }
   /* The rows shown as one SVG, in the colours of the page. */
   exportSvg() {
-    if (this.tooMany()) return;
+    if (this.hasNoPicture()) return;
     const rules = [...document.styleSheets].flatMap(sheet => [...sheet.cssRules]).map(rule => rule.cssText);
     const isDark = document.documentElement.dataset.theme === 'dark';
     const colours = rules.find(rule => rule.startsWith(isDark ? ':root[data-theme' : ':root {')).replace(/^[^{]*/, 'svg ');
@@ -490,7 +498,7 @@ class App {
     this.say(`${this.chart.shown.length} rows as SVG, ${Math.ceil(this.exportedText.length / 1024)} KiB`);
   }
   copyMermaid() {
-    if (this.tooMany()) return;
+    if (this.hasNoPicture()) return;
     this.exportedText = asMermaid(this.model, this.chart.shown);
     this.copy(this.exportedText);
   }
@@ -548,6 +556,8 @@ class App {
     }
     if (isInput(target) || event.ctrlKey || event.metaKey || event.altKey || byId('dialog').open) return;
     const isOfChart = /^(BODY|SECTION)$/.test(target.tagName);
+    if (isOfChart && this.isOfEdid) this.map.key(event);
+    if (event.defaultPrevented) return;
     const isOfTabs = target.getAttribute('role') === 'tab';
     const keys = { ...this.pageKeys(), ...(isOfChart ? this.chartKeys() : {}), ...(isOfTabs ? this.tabKeys() : {}) };
     if (!Object.hasOwn(keys, event.key)) return;
@@ -564,9 +574,9 @@ class App {
       m: () => this.copyMermaid(),
       t: () => this.setTheme(),
       w: () => byId('line').focus(),
-      c: () => (byId('chart').hidden ? this.map.focus() : byId('chart').focus()),
-      n: () => this.goToFailed(1),
-      N: () => this.goToFailed(-1),
+      c: () => (this.isOfEdid ? this.map.focus() : byId('chart').focus()),
+      n: () => (this.isOfEdid ? this.map.next(1) : this.goToFailed(1)),
+      N: () => (this.isOfEdid ? this.map.next(-1) : this.goToFailed(-1)),
     };
   }
   chartKeys() {
