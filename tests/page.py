@@ -1204,10 +1204,13 @@ def bytes_fit(t, b):
         b.js("hdminet.app.map.select(0)")
         b.key("ArrowDown")
         t.same("down is eight bytes", b.js("hdminet.app.map.at"), 8)
-        b.js("hdminet.app.map.select(200)")
-        seen = b.js("[hdminet.app.map.cells[200], hdminet.app.map.reading].map(one => (box => box.top >= 0 && box.bottom <= innerHeight)"
-                    "(one.getBoundingClientRect()))")
-        t.same("a byte and what it says are in sight at once", [seen, b.js("scrollY")], [[True, True], 0])
+        b.js("hdminet.app.map.select(137)")  # of which much is said
+        boxes = b.js("[hdminet.app.map.cells[137], hdminet.app.map.reading].map(one => one.getBoundingClientRect().toJSON())")
+        t.holds("a byte and what it says are in sight at once", 0 <= boxes[0]["top"] and boxes[0]["bottom"] <= boxes[1]["top"]
+                and boxes[1]["bottom"] <= 800 and b.js("scrollY") == 0, boxes)
+        b.js("hdminet.app.map.hover(hdminet.app.map.cells[0])")
+        t.same("what is below the map keeps its place", b.js("hdminet.app.map.reading.getBoundingClientRect().toJSON()"), boxes[1])
+        b.js("hdminet.app.map.hover(null)")
     finally:
         b.resize(1440, 900)
     for theme in ("light", "dark"):

@@ -147,8 +147,8 @@ export class ByteMap {
     cell.setAttribute('aria-selected', 'true');
     cell.setAttribute('tabindex', '0');
     if (isFocused) cell.focus({ preventScroll: true });
-    this.reveal(cell);
     this.tell();
+    this.reveal(cell);
     if (this.isBeside) return;
     if (this.app.panel === 'edids') this.markFields();
     else if (!keepsPanel) this.app.openPanel('edids');
