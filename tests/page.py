@@ -718,6 +718,10 @@ def failures_are_drawn(t, b):
     t.same("and a line for each stretch", b.js("document.querySelectorAll('#panel tr').length"), 5)
 
 
+NAMELESS = ("[...document.querySelectorAll('button,input,[tabindex]')]"
+            ".filter(e => !(/[a-z]/i.test(e.textContent) || e.title || e.getAttribute('aria-label'))).map(e => e.id || e.className)")
+
+
 def keys_reach_all(t, b):
     """The page by keys alone: each control has a name and is reached."""
     show(b, written("retries.net", RETRIES))
@@ -753,10 +757,7 @@ def keys_reach_all(t, b):
     b.key("t")
     t.same("t: the other theme", b.js("document.documentElement.dataset.theme"), "dark")
     b.key("t")
-    nameless = ("[...document.querySelectorAll('button,input,[tabindex]')]"
-                ".filter(e => !(/[a-z]/i.test(e.textContent) || e.title || e.getAttribute('aria-label')))"
-                ".map(e => e.id || e.className)")
-    t.same("controls without a name", b.js(nameless), [])
+    t.same("controls without a name", b.js(NAMELESS), [])
     reached = set()
     b.js("document.activeElement.blur()")
     for _ in range(40):
@@ -1131,6 +1132,7 @@ def bytes_are_reached(t, b):
         for key in keys:
             b.key(key)
         t.same(f"{keys} of the map", b.js(at), [wanted] * 2)
+    t.same("controls without a name", b.js(NAMELESS), [])
     t.same("one byte is reached by Tab", b.js("[...document.querySelectorAll('#bytes [tabindex=\"0\"]')].map(one => one.dataset.at)"), ["137"])
     box = "(box => [box.x + box.width / 2, box.y + box.height / 2])(%s.getBoundingClientRect())"
     marked = ("[hdminet.app.map.cells.flatMap((cell, at) => cell.classList.contains('hot') ? [at] : []),"
