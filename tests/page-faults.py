@@ -15,6 +15,7 @@ import tempfile
 TOP = os.path.dirname(os.path.dirname(os.path.realpath(__file__)))
 ROOM, CAPTURE, WORDS, REPORT = "values_of_retries", "values_of_a_capture", "words_are_the_standards", "reports_are_shown"
 EVENING, LOOSE, SEARCH = "values_of_an_evening", "values_of_a_loose_device", "searches_find"
+BYTES, REACHED, FIT, LIVE_BYTES = "bytes_are_shown", "bytes_are_reached", "bytes_fit", "live_bytes_are_run"
 
 # What is wrong, the file of view/, what stands there and what is planted, and the test that is to fail.
 PLANTS = [
@@ -78,6 +79,47 @@ PLANTS = [
     ("the words of a verdict", "words.js", "nack: 'Nobody acknowledged a block.'", "nack: 'Somebody refused a block.'", ROOM),
     ("the window of an expectation that is copied", "words.js", "`expect from ${begin} to ${close} ${",
      "`expect from ${begin} to ${close - 1} ${", "live_page_runs"),
+    ("where a line of the base block stands", "edid.js", "[16, 2], [20, 1]", "[16, 2], [19, 1]", BYTES),
+    ("where standard timings stand", "edid.js", "[38 + 2 * i, 2]", "[36 + 2 * i, 2]", BYTES),
+    ("where descriptors stand", "edid.js", "[54 + TIMING * i, TIMING]", "[72 - TIMING * i, TIMING]", BYTES),
+    ("the flags of an extension without their header", "edid.js", "first + BLOCK + 4);", "first + BLOCK + 3);", BYTES),
+    ("where timings of an extension begin", "edid.js", "at = first + Math.max(bytes[first + 2] || 0, 4);", "at += 0;", "bytes_are_the_programs"),
+    ("the checksum of a block", "edid.js", "if (at % BLOCK === BLOCK - 1)", "if (at === BLOCK - 1)", BYTES),
+    ("which timing a rule is of", "edid.js", "=== 'timing')[finding.timing - 1]", "=== 'timing')[finding.timing]", BYTES),
+    ("which byte of a data block a rule is of", "edid.js", "part.from + 1 + Number(byte)", "part.from + Number(byte)", BYTES),
+    ("a rule of a data block, as if it were of its length", "edid.js", "length: 'left' }[kind]", "length: 'left' }[kind || 'length']", BYTES),
+    ("the video code of a rule", "edid.js", "codeOf(field) === Number(code[1])", "codeOf(field) !== Number(code[1])", BYTES),
+    ("which standard timing a rule is of", "edid.js", "lines[STANDARD + n - 1]", "lines[STANDARD + n]", BYTES),
+    ("which descriptor a rule is of", "edid.js", "[STANDARD, DESCRIPTOR] = [11, 19]", "[STANDARD, DESCRIPTOR] = [11, 18]", BYTES),
+    ("which extension a rule is of", "edid.js", "/^(ext|cta|cta-none)$/.test(line.word))[n - 1]", "/^(cta|cta-none)$/.test(line.word))[n - 1]", BYTES),
+    ("the data block that a rule names", "edid.js", "Number(placed[2]))[Number(placed[1]) - 1]", "Number(placed[2]))[Number(placed[1]) - 2]", BYTES),
+    ("fields of the next byte", "edid.js", "fields.filter(field => field.at === at)", "fields.filter(field => field.at === at + 1)", BYTES),
+    ("values without their zeros", "bytes.js", "value.toString(2).padStart(high - low + 1, '0')", "value.toString(2)", BYTES),
+    ("the highest bit and the lowest", "bytes.js", "`bits ${high}..${low}`", "`bits ${low}..${high}`", BYTES),
+    ("what a failure looks like", "bytes.js", "? 'fails' : lines.length > 0 && 'warns'", "? 'warns' : lines.length > 0 && 'fails'", BYTES),
+    ("a value that is reserved", "bytes.js", "fields.some(field => field.found) && 'odd'", "fields.some(field => field.meaning) && 'odd'", BYTES),
+    ("which byte of the block", "bytes.js", "byte ${at % BLOCK}: ${value}`", "byte ${at % ROW}: ${value}`", BYTES),
+    ("bytes that are missing", "bytes.js", "part && part.cut > 0", "part && part.left > 0", BYTES),
+    ("the end of a stretch", "bytes.js", "${hexPlace(to - 1)}`", "${hexPlace(to)}`", BYTES),
+    ("the name of a part", "bytes.js", "part && lines.length > 0 && html('div', { class: 'dim' }, name)", "html('div', { class: 'dim' }, name)", BYTES),
+    ("the characters of bytes", "bytes.js", "byte > 0x20 && byte < 0x7f", "byte > 0x20 && byte < 0x70", BYTES),
+    ("which fields are marked", "bytes.js", "classList.toggle('is', row.dataset.at === String(at))", "classList.toggle('is', row.dataset.at !== String(at))", BYTES),
+    ("which cells are selected", "bytes.js", "this.edid.owners[one] === owner);", "this.edid.owners[one] === owner && one >= at);", BYTES),
+    ("what the program writes of a part", "texts.js", "BLOCK * first + within", "BLOCK * first + within + 1", BYTES),
+    ("what is under the mouse", "bytes.js", "const at = this.hot ?? this.at;", "const { at } = this;", REACHED),
+    ("the line under the mouse", "bytes.js", "'pointerenter': () => to > from && this.hover(this.cells[from])", "'pointerenter': () => to > from && this.hover(this.cells[to])", REACHED),
+    ("a row further down", "bytes.js", "go(now + this.perRow > last ? now : now + this.perRow)", "go(now + ROW > last ? now : now + ROW)", FIT),
+    ("the next broken rule", "bytes.js", "isOdd(at) && owners[at] !== owners[now]", "isOdd(at) && owners[at] === owners[now]", REACHED),
+    ("the address of a byte", "view.js", "`#byte=${map.at}`", "`#byte=${map.at.toString(16)}`", REACHED),
+    ("a search of bytes", "bytes.js", "this.words.every(word => stretch.find", "this.words.some(word => stretch.find", REACHED),
+    ("which bytes differ", "beside.js", "!isSame(i) && bytes.add", "isSame(i) && bytes.add", REACHED),
+    ("a data block that another EDID has elsewhere", "beside.js", "take(each => stretchSays(each) === stretchSays(stretch))", "take(() => true)", REACHED),
+    ("contrast of bytes in the dark", "view.css", ":root[data-theme=dark] .cell { background: hsl(var(--h) 45% 17%); }", "", FIT),
+    ("rows of sixteen bytes in a narrow window", "view.css", "@container (max-width: 560px)", "@container (max-width: 160px)", FIT),
+    ("what is printed of an EDID", "view.css", "  .edid .grids, .edid #panel { overflow: visible; }\n", "", FIT),
+    ("the line of a byte in the text", "live.js", "edid.owners[at].lines.map(line => all[line.number])", "edid.owners[at].lines.map(line => line.number)", LIVE_BYTES),
+    ("the bytes of a line of the text", "live.js", "line <= cursor).length - 1", "line < cursor).length - 1", LIVE_BYTES),
+    ("a byte stays selected", "live.js", "  if (before.byte !== null) app.map.select(before.byte, { isFocused: false });\n", "", LIVE_BYTES),
     ("which run is beside", "beside.js", "const mark = !one ? '+'", "const mark = !one ? '−'", "runs_stand_beside"),
 ]
 

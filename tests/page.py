@@ -13,6 +13,7 @@ import subprocess
 import sys
 import time
 
+import page_edids
 import page_values
 from browser import Browser
 from page_inputs import hostile_inputs, long_room, MARKUP, random_room, RETRIES
@@ -717,6 +718,10 @@ def failures_are_drawn(t, b):
     t.same("and a line for each stretch", b.js("document.querySelectorAll('#panel tr').length"), 5)
 
 
+NAMELESS = ("[...document.querySelectorAll('button,input,[tabindex]')]"
+            ".filter(e => !(/[a-z]/i.test(e.textContent) || e.title || e.getAttribute('aria-label'))).map(e => e.id || e.className)")
+
+
 def keys_reach_all(t, b):
     """The page by keys alone: each control has a name and is reached."""
     show(b, written("retries.net", RETRIES))
@@ -752,10 +757,7 @@ def keys_reach_all(t, b):
     b.key("t")
     t.same("t: the other theme", b.js("document.documentElement.dataset.theme"), "dark")
     b.key("t")
-    nameless = ("[...document.querySelectorAll('button,input,[tabindex]')]"
-                ".filter(e => !(/[a-z]/i.test(e.textContent) || e.title || e.getAttribute('aria-label')))"
-                ".map(e => e.id || e.className)")
-    t.same("controls without a name", b.js(nameless), [])
+    t.same("controls without a name", b.js(NAMELESS), [])
     reached = set()
     b.js("document.activeElement.blur()")
     for _ in range(40):
@@ -1033,6 +1035,315 @@ def live_server_is_careful(t, b):
         stream.end()
 
 
+def edid_told(data, *flags):
+    """What the program writes of an EDID, and what it says of the rules that are broken."""
+    done = subprocess.run([PROGRAM, "edid", *flags], input=data, capture_output=True, check=False)
+    return done.stdout.decode(), "".join(line for line in done.stderr.decode().splitlines(keepends=True) if not line.startswith("hdminet"))
+
+
+def load_edid(b, data, rows, places):
+    """Loads an EDID with objects by hand, and gives it and what is found."""
+    edid = page_edids.Edid(data, rows, edid_told(data, "--meaning")[0])
+    explained = edid_told(data, "--check", "--explain")[1]
+    load(b, edid_told(data, "--meaning")[0], data.hex(), edid.objects(), edid_told(data, "--check", "--json")[0], explained)
+    return edid, page_edids.findings_of(explained, places)
+
+
+# Each byte as it is selected: its cell, what is said of it below the map, which cells are in its stretch, and what the panel marks.
+BYTES = """hdminet.app.map.cells.map((cell, at, cells) => {
+  const { map } = hdminet.app;
+  map.select(at, { isFocused: false });
+  const texts = list => [...list].map(one => one.textContent);
+  const [head, title, ...bad] = texts(map.reading.querySelectorAll('p'));
+  const rows = [...map.reading.querySelectorAll('tr')].slice(1).map(tr => texts(tr.cells));
+  const looks = [...cell.classList].filter(name => ['first', 'own', 'fails', 'warns', 'odd'].includes(name)).sort();
+  const isIn = cells.map(one => one.classList.contains('in'));
+  const node = document.querySelector('.stretch.in');
+  return { text: cell.textContent, looks, label: cell.getAttribute('aria-label'), about: [head.trim(), title, rows, bad],
+    among: [isIn.indexOf(true), isIn.lastIndexOf(true) + 1], selected: texts(document.querySelectorAll('#bytes .is')),
+    node: node.querySelector('code').textContent, count: document.querySelectorAll('.stretch.in').length,
+    open: texts(document.querySelectorAll('.stretch details[open] tr.is td:nth-child(2)')) };
+})"""
+NODES = """[...document.querySelectorAll('.stretch')].map(node => {
+  const [head, ...below] = node.children;
+  const texts = below.filter(one => one.tagName !== 'DETAILS').flatMap(one => one.childElementCount > 0 ? [...one.children] : [one]);
+  return [head.firstChild.textContent, head.querySelector('code').textContent, texts.map(one => one.textContent),
+    [...node.querySelectorAll('tr[data-at]')].map(tr => [...tr.cells].map(cell => cell.textContent))];
+})"""
+
+
+def bytes_are_shown(t, b):
+    """The map of an EDID: each byte, its field, its value, what that means, which rule it breaks; and the same in the side panel."""
+    b.open(BARE)
+    b.js(HELPERS)
+    for name, data, rows, places in [("a living room's", page_edids.example_edid(), page_edids.LIVING_ROOM, page_edids.LIVING_ROOM_FOUND),
+                                     ("an odd one", page_edids.odd_edid(), page_edids.ODD, page_edids.ODD_FOUND),
+                                     ("a wrong one", page_edids.wrong_edid(), page_edids.LIVING_ROOM, page_edids.WRONG_FOUND)]:
+        edid, findings = load_edid(b, data, rows, places)
+        t.same(f"{name}: nothing is noted", b.js("hdminet.app.model.faults"), [])
+        t.holds(f"{name}: rules are broken", set(places) <= {said[0] for said, _ in findings}, findings)
+        rows_of_bytes = b.js("[...document.querySelectorAll('#bytes .row16')].map(row => [...row.children].map(one => one.textContent))")
+        dots = [chr(byte) if 0x20 < byte < 0x7f else "\u00a0" if byte == 0x20 else "·" for byte in data]
+        t.same(f"{name}: rows", rows_of_bytes, [
+            [text for half in (at, at + 8) for text in (f"{half:03x}", data[half:half + 8].hex(), "".join(dots[half:half + 8]))]
+            for at in range(0, len(data), 16)])
+        t.same(f"{name}: the panel", b.js(NODES), edid.nodes(findings))
+        t.same(f"{name}: the counts", b.js("document.getElementById('counts').textContent"),
+               f"{len(data)} bytes, {len(findings)} broken rule{'s' if len(findings) != 1 else ''}")
+        t.same(f"{name}: rules and their bytes", b.js(
+            "[...document.querySelectorAll('#panel .finding')].map(one => [...one.children].map(part => part.textContent))"),
+            [[*said, *([f"byte {where[0]:03x}"] if where else [])] for said, where in findings])
+        shown = b.js(BYTES)
+        t.same(f"{name}: bytes", [one["text"] for one in shown], [f"{byte:02x}" for byte in data])
+        for at, one in enumerate(shown):
+            what = f"{name}: byte {at}"
+            first, end, line, part = edid.stretch_at(at)
+            t.same(f"{what}: its name", one["label"], edid.label(at, findings))
+            t.same(f"{what}: how it looks", one["looks"], edid.classes(at, findings))
+            t.same(f"{what}: what it says", one["about"], edid.about(at, findings))
+            t.same(f"{what}: what is selected", [one["among"], one["selected"]], [[first, end], [f"{data[at]:02x}"]])
+            t.same(f"{what}: in the panel", [one["count"], one["node"], one["open"]],
+                   [1, edid.title((first, end, line, part)), [field.name for field in edid.fields if field.at == at]])
+    # An EDID of which not each byte is known: the objects alone
+    load(b, page_edids.Edid(page_edids.odd_edid(), page_edids.ODD, "").objects())
+    t.same("objects alone", b.js("hdminet.app.map.cells.map(cell => cell.textContent).filter(text => text !== '··').join('')"),
+           page_edids.ODD_BLOCKS.hex())
+    t.same("a byte that is not known", b.js("(hdminet.app.map.select(3), hdminet.app.map.reading.textContent)"),
+           "003 block 0 byte 3: not knownheader of an EDID")
+
+
+def bytes_are_reached(t, b):
+    """By keys, mouse, search and address; hovering marks both ways; an EDID beside another one."""
+    b.open(BARE)
+    b.js(HELPERS)
+    load_edid(b, page_edids.odd_edid(), page_edids.ODD, page_edids.ODD_FOUND)
+    t.same("the map is in the chart's place", b.js("['chart', 'bytes', 'strip', 'wave'].map(id => document.getElementById(id).hidden)"),
+           [True, False, True, True])
+    at = "[hdminet.app.map.at, Number(document.activeElement.dataset.at)]"
+    b.js("document.activeElement.blur()")
+    b.key("n")
+    t.same("n from anywhere", b.js(at), [133] * 2)
+    load_edid(b, page_edids.odd_edid(), page_edids.ODD, page_edids.ODD_FOUND)
+    b.js("document.activeElement.blur()")
+    b.key("c")
+    for keys, wanted in [(["ArrowRight"], 1), (["ArrowDown"], 17), (["ArrowUp", "ArrowLeft"], 0), (["ArrowUp"], 0), (["End"], 255),
+                         (["ArrowDown"], 255), (["Home"], 0), (["PageDown"], 8), (["PageDown"], 10), (["PageUp"], 8), (["n"], 133),
+                         (["n"], 134), (["n"], 138), (["n"], 138), (["N"], 137)]:
+        for key in keys:
+            b.key(key)
+        t.same(f"{keys} of the map", b.js(at), [wanted] * 2)
+    t.same("controls without a name", b.js(NAMELESS), [])
+    t.same("one byte is reached by Tab", b.js("[...document.querySelectorAll('#bytes [tabindex=\"0\"]')].map(one => one.dataset.at)"), ["137"])
+    box = "(box => [box.x + box.width / 2, box.y + box.height / 2])(%s.getBoundingClientRect())"
+    marked = ("[hdminet.app.map.cells.flatMap((cell, at) => cell.classList.contains('hot') ? [at] : []),"
+              " [...document.querySelectorAll('.stretch.hot code')].map(one => one.textContent)]")
+    x, y = b.js(box % "hdminet.app.map.cells[133]")
+    b.mouse("mouseMoved", x, y)
+    t.same("a byte under the mouse", b.js(marked), [[132, 133], ["video 80"]])
+    t.holds("is told below", b.js("hdminet.app.map.reading.textContent").startswith("085 block 1 byte 5: 80 = 128"))
+    b.click(x, y)
+    t.same("a click", b.js(at), [133] * 2)
+    x, y = b.js(box % "[...document.querySelectorAll('.stretch button')].find(one => one.textContent.includes('video 80'))")
+    b.mouse("mouseMoved", x, y)
+    t.same("a line under the mouse", b.js(marked), [[132, 133], ["video 80"]])
+    b.js("[...document.querySelectorAll('.stretch button')].find(one => one.textContent.includes('extended 004f11')).click()")
+    t.same("a click on a line", b.js("hdminet.app.map.at"), 134)
+    b.js("document.querySelectorAll('.stretch.in tr[data-at]')[4].click()")
+    t.same("a click on a field", b.js("hdminet.app.map.at"), 136)
+    b.js("document.querySelectorAll('#panel .finding .link')[0].click()")
+    t.same("a click on a rule", b.js("hdminet.app.map.at"), 138)
+    t.holds("its moment is an address", until(b, "location.hash === '#byte=138'", 10), b.js("location.hash"))
+    b.js("location.hash = '#byte=9'")
+    t.holds("an address is gone to", until(b, "hdminet.app.map.at === 9", 10))
+    faint = "[...new Set(hdminet.app.map.cells.map((cell, at) => cell.classList.contains('faint') ? null : at))].filter(at => at !== null)"
+    b.js("hdminet.app.searchFor('capability selectable')")
+    t.same("a search", [b.js(faint), b.js("document.querySelectorAll('.stretch').length")], [[134, 135, 136, 137], 1])
+    b.js("hdminet.app.searchFor('')")
+    # Beside another one: what is in both is not marked, wherever it stands
+    page = os.path.join(ROOM, "beside-edids.html")
+    paths = []
+    for name, data in (("one.edid", page_edids.example_edid()), ("other.edid", page_edids.odd_edid())):
+        paths.append(os.path.join(ROOM, name))
+        with open(paths[-1], "wb") as file:
+            file.write(data)
+    subprocess.run([os.path.join(TOP, "tools/page"), paths[0], "--beside", paths[1], "-o", page], check=True)
+    b.open(page)
+    differs = "hdminet.app.%s.cells.flatMap((cell, at) => cell.classList.contains('differs') ? [at] : [])"
+    found = [set(b.js(differs % name)) for name in ("map", "mapBeside")]
+    bases = [{at for at in one if at < 128} for one in found]
+    t.same("two EDIDs: the base block is the same", bases, [set(), set()])
+    t.holds("two EDIDs: the data blocks differ", {130, 133, 255} <= found[0] and {130, 133, 255} <= found[1], found)
+    names = b.js("[...document.querySelectorAll('.differences th')].map(one => one.textContent)")
+    t.same("two EDIDs: their names", names, ["", "one.edid", "", "other.edid"])
+    b.js("hdminet.app.mapBeside.select(133)")
+    t.same("the other one has a reading of its own", b.js("[hdminet.app.map.at, hdminet.app.mapBeside.reading.textContent.slice(0, 3)]"), [None, "085"])
+    subprocess.run([os.path.join(TOP, "tools/page"), paths[0], "--beside", paths[0], "-o", page], check=True)
+    b.open(page)
+    alike = "[document.querySelectorAll('.differs').length, document.querySelector('#panel p:not(.dim)').textContent]"
+    t.same("an EDID beside itself", b.js(alike), [0, "Both say the same."])
+    # The same with audio and speakers in the other order
+    pages = [page_edids.Edid(*told, edid_told(told[0], "--meaning")[0]) for told in
+             ((page_edids.example_edid(), page_edids.LIVING_ROOM), page_edids.moved_edid())]
+    texts = [{"name": "x", "text": text, "size": len(text), "wave": False} for edid in pages
+             for text in (edid.meaning, edid.data.hex(), edid.objects())]
+    readings = [{"texts": places, "how": {}, "said": [], "frames": 0, "flags": "", "beside": places[0] > 0} for places in ([0, 1, 2], [3, 4, 5])]
+    b.js(f"hdminet.app.openData({json.dumps({'title': 'x', 'first': 0, 'readings': readings, 'texts': texts})})")
+    t.same("an EDID beside the same with two data blocks exchanged", b.js(alike), [0, "Both say the same."])
+
+
+def bytes_fit(t, b):
+    """The map at 390 pixels and in both themes: nothing wider than the window, a contrast of 4.5 for each byte; and all of it printed."""
+    b.open(BARE)
+    b.js(HELPERS)
+    try:
+        b.resize(390, 800)
+        load_edid(b, page_edids.odd_edid(), page_edids.ODD, page_edids.ODD_FOUND)
+        t.holds("nothing is wider", b.js("document.documentElement.scrollWidth") <= 390, b.js("document.documentElement.scrollWidth"))
+        wide = "(box => [box.left >= 0, box.right <= innerWidth])(hdminet.app.map.cells[%d].getBoundingClientRect())"
+        t.same("each byte of a row is in the window", [b.js(wide % at) for at in (0, 7, 8, 15)], [[True, True]] * 4)
+        tops = b.js("[0, 7, 8, 16].map(at => Math.round(hdminet.app.map.cells[at].getBoundingClientRect().top))")
+        t.same("eight bytes in a row", [tops[0] == tops[1], tops[1] < tops[2] < tops[3]], [True, True])
+        b.js("hdminet.app.map.select(0)")
+        b.key("ArrowDown")
+        t.same("down is eight bytes", b.js("hdminet.app.map.at"), 8)
+        b.js("hdminet.app.map.select(137)")  # of which much is said
+        boxes = b.js("[hdminet.app.map.cells[137], hdminet.app.map.reading].map(one => one.getBoundingClientRect().toJSON())")
+        t.holds("a byte and what it says are in sight at once", 0 <= boxes[0]["top"] and boxes[0]["bottom"] <= boxes[1]["top"]
+                and boxes[1]["bottom"] <= 800 and b.js("scrollY") == 0, boxes)
+        b.js("hdminet.app.map.hover(hdminet.app.map.cells[0])")
+        t.same("what is below the map keeps its place", b.js("hdminet.app.map.reading.getBoundingClientRect().toJSON()"), boxes[1])
+        b.js("hdminet.app.map.hover(null)")
+    finally:
+        b.resize(1440, 900)
+    for theme in ("light", "dark"):
+        b.js(f"hdminet.app.setTheme('{theme}')")
+        least = b.js("""(() => {
+          const { map } = hdminet.app;
+          const light = colour => {
+            const parts = colour.match(/[\\d.]+/g).slice(0, 3).map(part => Number(part) / 255);
+            const linear = parts.map(part => (part <= 0.04045 ? part / 12.92 : ((part + 0.055) / 1.055) ** 2.4));
+            return 0.2126 * linear[0] + 0.7152 * linear[1] + 0.0722 * linear[2];
+          };
+          const of = cell => {
+            const { color, backgroundColor } = getComputedStyle(cell);
+            const [dark, bright] = [light(color), light(backgroundColor)].sort((a, b) => a - b);
+            return (bright + 0.05) / (dark + 0.05);
+          };
+          const found = [];
+          const odd = map.cells[133];
+          for (let hue = 0; hue < 360; hue += 10) {
+            odd.style.setProperty('--h', hue);
+            map.select(20, { isFocused: false });
+            found.push(of(odd));
+            map.select(133, { isFocused: false });
+            found.push(of(odd), of(map.cells[132]));
+          }
+          return Math.min(...found, ...map.cells.map(of));
+        })()""")
+        t.holds(f"{theme}: the contrast of bytes", least >= 4.5, least)
+    b.js("hdminet.app.setTheme('light')")
+    b.call("Emulation.setEmulatedMedia", media="print")
+    try:
+        boxes = b.js("['#bytes .cell:last-child', '#panel', 'aside'].map(one => getComputedStyle(document.querySelector(one)).display)")
+        t.holds("bytes and their meaning are printed", "none" not in boxes, boxes)
+        # What scrolls is not cut into pages
+        t.same("none is cut off", b.js("['.grids', '#panel', 'main'].map(one => getComputedStyle(document.querySelector(one)).overflow)"),
+               ["visible"] * 3)
+        b.call("Page.printToPDF", paperWidth=8.3, paperHeight=11.7)
+    finally:
+        b.call("Emulation.setEmulatedMedia", media="")
+
+
+def has_fields():
+    """Whether the program has `edid --json`."""
+    return edid_told(page_edids.example_edid(), "--json")[0].startswith('{"type":"part"')
+
+
+def bytes_are_the_programs(t, b):
+    """The bytes of each line are those that change it: each is changed by a bit, with a right checksum, and the program's text compared.
+    The fields are those of `edid --json`, bit by bit, where the program has it."""
+    is_told = has_fields()
+    draw = random.Random("bits")
+    for name in ("lg-oled55b6v", "monitor-1.4"):
+        data = page_edids.example_edid(name)
+        b.open(page_of(os.path.join(EXAMPLES, f"{name}.edid")))
+        t.same(f"{name}: nothing is noted", b.js("hdminet.app.model.faults"), [])
+        owners = b.js("hdminet.app.model.edid.owners.map(one => one.lines.map(line => line.text))")
+        lines = edid_told(data)[0].splitlines()
+        compared = 0
+        for at in range(len(data)):
+            changed = bytearray(data)
+            changed[at] ^= 1 << draw.randrange(8)
+            others = edid_told(page_edids.mended(changed))[0].splitlines()
+            differ = [one for one, other in zip(lines, others) if one != other]
+            if len(lines) != len(others) or len(differ) != 1 or (not is_told and not owners[at]):
+                continue
+            compared += 1
+            t.same(f"{name}: the line of byte {at}", owners[at], differ)
+        t.holds(f"{name}: most bytes have a line", compared > (200 if is_told else 110), compared)
+    if not is_told:
+        print("page: left out of bytes_are_the_programs: the fields, since the program has no `edid --json`")
+        return
+    for name in sorted(name for name in os.listdir(EXAMPLES) if name.endswith(".edid")):
+        data = page_edids.example_edid(name[:-5])
+        told = [json.loads(line) for line in edid_told(data, "--json")[0].splitlines()]
+        b.open(page_of(os.path.join(EXAMPLES, name)))
+        got = b.js("hdminet.app.map.cells.map((cell, at) => { hdminet.app.map.select(at, { isFocused: false });"
+                   " return [...hdminet.app.map.reading.querySelectorAll('tr')].slice(1).map(tr => [...tr.cells].map(one => one.textContent)); })")
+        wanted = [[] for _ in data]
+        for one in told:
+            if one["type"] == "field":
+                bits = f"bit {one['high']}" if one["high"] == one["low"] else f"bits {one['high']}..{one['low']}"
+                value = data[128 * one["block"] + one["byte"]] >> one["low"] & (1 << one["high"] - one["low"] + 1) - 1
+                found = one["found"] if one["found"] and one["found"] != one["meaning"] else ""
+                said = ", ".join(filter(None, [one["meaning"], found]))
+                wanted[128 * one["block"] + one["byte"]].append(
+                    [bits, f"{value:0{one['high'] - one['low'] + 1}b}", one["name"], str(value), said])
+        t.same(f"{name}: fields", got, wanted)
+
+
+def live_bytes_are_run(t, b):
+    """tools/look --live of an EDID: its text is edited, and its bytes follow at once; what is selected stays; lines and bytes are tied."""
+    path = os.path.join(ROOM, "live.edid")
+    data = page_edids.example_edid()
+    with open(path, "wb") as file:
+        file.write(data)
+    live = Live(path)
+    try:
+        b.open(live.address)
+        b.js(HELPERS)
+        until(b, "performance.getEntriesByName('shown').length > 0")
+        b.js(LIVE)
+        text = edid_told(data)[0]
+        hexes = "hdminet.app.map.cells.map(cell => cell.textContent).join('')"
+        t.same("the text and its bytes", [b.js("hdminet.live.area.value"), b.js(hexes)], [text, data.hex()])
+        b.js("hdminet.app.map.select(144)")
+        until(b, "location.hash === '#byte=144'", 10)
+        b.js("history.replaceState(null, '', location.pathname)")  # else the address selects it
+        draw = random.Random("edids")
+        for number in range(8):
+            edited = text.replace("product 258", f"product {draw.randrange(65536)}").replace("gamma 120", f"gamma {draw.randrange(256)}")
+            b.js(f"edit({json.dumps(edited)})")
+            raw = subprocess.run([PROGRAM, "edid", "--words", "--raw"], input=edited.encode(), capture_output=True, check=True).stdout
+            t.same(f"edit {number}", b.js(hexes), raw.hex())
+        t.same("the byte stays selected", b.js("hdminet.app.map.at"), 144)
+        b.js(f"edit({json.dumps(text.replace('gamma 120', 'gamma 1200'))})")
+        t.same("a fault, and the last good bytes", [b.js("document.querySelector('#source .gutter .at').textContent"), b.js(hexes)],
+               [str(text.splitlines().index("gamma 120") + 1), raw.hex()])
+        meant = text.replace("gamma 120\n", "gamma 120\n  as it is\n")
+        b.js(f"edit({json.dumps(meant)})")
+        b.js("hdminet.app.map.select(24)")
+        number = meant.splitlines().index("features 0e") + 1
+        t.same("a byte marks its line", b.js("document.querySelector('#source .gutter .is').textContent"), str(number))
+        for line, at in (("size 52 29", 21), ("  as it is", 23), ("standard unused", 38), ("edid 1.3", 18)):
+            b.js(f"(area => {{ const at = area.value.indexOf({json.dumps(line)}); area.setSelectionRange(at, at); area.click(); }})(hdminet.live.area)")
+            t.same(f"a click on {line}", b.js("hdminet.app.map.at"), at)
+        t.same("nothing else is asked", [fault for fault in b.faults() if not fault.startswith(f"network: {live.address}")], [])
+    finally:
+        b.open(BARE)
+        live.end()
+
+
 def other_sizes_fit(t, b):
     """A telephone: the panel below the chart, nothing wider than the window, the help on the first screen; and all rows where it is printed."""
     page = page_of(os.path.join(EXAMPLES, "living-room-evening.net"))
@@ -1238,6 +1549,15 @@ def files_may_be_dropped(t, b):
                                ("x.net", room, [6, True, True, 0, 0]), ("x.meaning", meaning, [6, True, True, 1, 0])]:
         drop(name, text)
         t.same(f"dropped: {name}", b.js(there), wanted)
+    b.js(f"(async () => {{ const bytes = new Uint8Array({list(page_edids.example_edid())}); const data = new DataTransfer();"
+         " data.items.add(new File([bytes], 'tv.edid'));"
+         " document.dispatchEvent(new DragEvent('drop', { dataTransfer: data, bubbles: true, cancelable: true })); })()")
+    t.holds("dropped: an EDID's bytes", until(b, "testing.app.map.cells.length === 256", 10))
+    drop("tv.fields", page_edids.Edid(page_edids.example_edid(), page_edids.LIVING_ROOM, "").objects())
+    t.same("its fields are added, and lines of another EDID are named", b.js("(m => [m.rounds.length, m.parts.length, m.faults])"
+           "(testing.app.model)"), [6, 5, ["x.meaning: the lines of another EDID than the bytes"]])
+    t.same("they stand in the panel beside a run", b.js("[testing.app.openPanel('edids'), !!document.querySelector('#panel .grids'),"
+           " document.getElementById('bytes').hidden].slice(1)"), [True, True])
     # A session of `live` as it is: what it showed of its devices is so from then on
     lines = LOOSE.rstrip("\n").split("\n")
     session = "\n".join([*lines[:-1], "run to 1000000", "show p1", "run to 3700000", "show p1", lines[-1], ""])
@@ -1420,9 +1740,9 @@ def pages_are_made(t, b):
     found = b.js("[...document.querySelectorAll('#panel .finding')].map(one => [...one.children].map(part => part.textContent))")
     t.same("the rules that an EDID breaks", found, [
         ["fail srgb", "bit 2 of the features is set exactly where the chromaticities are those of sRGB (E-EDID A, 3.6.4)",
-         "here: features 0a"],
+         "here: features 0a", "byte 018"],
         ["fail out-of-range", "video codes, established and standard timings are within the range limits (E-EDID A, 3.10.3.3)",
-         "here: video code 96"]])
+         "here: video code 96", *(["byte 086"] if has_fields() else [])]])
     size = os.path.getsize(BARE)
     t.holds("the page without data is below 300 KB", size < 300000, size)
     capture = written("capture.test", example("capture.expect") + "capture\n" + example("capture.pin"))
@@ -1548,7 +1868,8 @@ def sources_are_plain(t, _):
 ALL = [sources_are_plain, verdicts_are_drawn, colours_differ, retries_are_folded, wave_is_drawn, other_lines_are_noticed,
        capture_is_drawn, advice_is_shown, attempts_are_the_audits, words_are_the_standards, reports_are_shown, values_of_an_evening,
        values_of_retries, values_of_a_loose_device, values_of_a_capture, failures_are_drawn, keys_reach_all, searches_find, other_sizes_fit, runs_stand_beside, live_page_runs, live_server_is_careful, mouse_works, hostile_inputs_are_harmless,
-       inferences_are_the_programs, sentences_are_the_programs, dumps_are_read, tool_is_imported, files_may_be_dropped, pages_are_made,
+       inferences_are_the_programs, bytes_are_shown, bytes_are_reached, bytes_fit, bytes_are_the_programs, live_bytes_are_run,
+       sentences_are_the_programs, dumps_are_read, tool_is_imported, files_may_be_dropped, pages_are_made,
        examples_have_pages,
        long_runs_are_fast]
 
@@ -1566,7 +1887,7 @@ def main():
             began = time.monotonic()
             try:
                 one(tests, browser)
-                if one not in (hostile_inputs_are_harmless, live_page_runs, live_server_is_careful):
+                if one not in (hostile_inputs_are_harmless, live_page_runs, live_server_is_careful, live_bytes_are_run):
                     tests.same(f"{one.__name__}: faults of the page", browser.faults(), [])
             except Exception as fault:  # a test that breaks off has failed, and the next ones go on
                 tests.holds(one.__name__, False, f"{type(fault).__name__}: {fault}")

@@ -68,6 +68,17 @@ def hostile_inputs(program, room):
              active_source={"a": MARKUP}, physical_address="0.0.0.0", deck=MARKUP, osd_text=MARKUP),
         line(line=MARKUP, type="remark", remark=MARKUP, section=MARKUP, attempt="x"), line(type="note", note=5, attempt=-1)])]
     yield "rules of no EDID", [f"fail {MARKUP}\n  {MARKUP}\n  here: {MARKUP}\n", f"warn x\n{MARKUP}\n"]
+    part = {"type": "part", "block": 1, "byte": 4, "bytes": "e200cf", "name": MARKUP, "cut": 9e9, "left": MARKUP}
+    field = {"type": "field", "block": 1, "byte": 4, "high": 7, "low": 5, "name": MARKUP, "value": 7, "meaning": MARKUP, "found": MARKUP}
+    yield "bytes of no EDID", ["\n".join([
+        line(**field), line(**part), *(line(**{**field, "byte": at}) for at in range(4, 7)), line(**part), line(**{**part, "byte": 5}),
+        *(line(**{**part, **one}) for one in ({"block": 4}, {"block": -1}, {"block": 1e9}, {"byte": 126}, {"byte": None}, {"bytes": ""},
+                                               {"bytes": MARKUP}, {"bytes": "e2" * 300}, {"block": 0, "byte": 0}, {"name": None})),
+        *(line(**{**field, **one}) for one in ({"high": 4}, {"high": 8}, {"value": 256}, {"value": "7"}, {"byte": 127}, {"found": 5},
+                                                {"found": "constructor"})),
+        line(line=f"fail {MARKUP}", type="finding", timing=1e9), line(line="warn x", type="finding", timing="x")]),
+        f"edid 1.3\n{MARKUP}\n  {MARKUP}\ncta\n{MARKUP}\ntail\ntiming\n" + "ext\n" * 9]
+    yield "an EDID of bytes alone", ["00ffffffffffff00" + "zz", "00ffffffffffff00" + "12" * 700, "00FF FFFF FFFF FF00 1"]
     yield "huge times", ["\n".join([line(**{**complete, "begin": -1e300, "close": 1e300}, by=["a"], out=[]),
                                     line(type="round", line="a", begin=1e15, close=1, ending="short", bits="0", by=[], out=[])])]
     yield "a plain trace", ["12000 39150 complete 0>0 nack by tv out -\n"]

@@ -22,7 +22,7 @@ export function duration(microseconds) {
   if (microseconds >= 1e6) return `${Math.round(microseconds / 1e3) / 1e3} s`;
   return microseconds >= 1e4 ? `${Math.round(microseconds / 100) / 10} ms` : `${microseconds} µs`;
 }
-export const counted = (count, what) => `${count} ${what}${count === 1 ? '' : 's'}`;
+export const counted = (count, what, several = `${what}s`) => `${count} ${count === 1 ? what : several}`;
 export const shortened = (text, most) => (text.length > most ? `${text.slice(0, Math.max(most - 1, 0))}…` : text);
 
 /* A table: with a head, or with the first cell of each row as its head. */

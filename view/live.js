@@ -41,13 +41,25 @@ const state = { given: '', isStream: false, faultLine: null, asked: 0, shown: 0,
 const firstOfScript = () => area.value.split('\n').indexOf('script') + 2;
 const lineOf = scriptLine => firstOfScript() + scriptLine - 1;
 
-/* Marks the line at fault, the line of the selected row, and those of tests that fail. */
+/* Which lines of the text are those of an EDID: lines that begin with a space say what they mean. */
+const linesOfEdid = () => area.value.split('\n').map((line, i) => (line.startsWith(' ') ? 0 : i + 1)).filter(Boolean);
+/* The lines of the selected byte of an EDID. */
+function linesOfByte() {
+  const { edid, at } = app.map;
+  if (!edid || at === null) return [];
+  const all = linesOfEdid();
+  return edid.owners[at].lines.map(line => all[line.number]);
+}
+
+/* Marks the line at fault, the line of the selected row or byte, and those of tests that fail. */
 function markLines() {
   const row = app.selected;
+  const ofByte = linesOfByte();
   const selected = row && row.type === 'event' ? row.o.scriptLine : row && row.type === 'test' ? row.test.scriptLine : null;
   const failed = new Set(app.model.tests.filter(test => !test.holds).map(test => lineOf(test.scriptLine)));
   const marks = number => [
-    number === state.faultLine && 'at', selected !== null && number === lineOf(selected) && 'is', failed.has(number) && 'no',
+    number === state.faultLine && 'at', ((selected !== null && number === lineOf(selected)) || ofByte.includes(number)) && 'is',
+    failed.has(number) && 'no',
   ].filter(Boolean).join(' ');
   const lines = area.value.split('\n');
   gutter.replaceChildren(...lines.map((_, i) => html('div', { class: marks(i + 1) }, String(i + 1))));
@@ -60,11 +72,12 @@ function place() {
   return {
     line: selected && selected.o ? selected.o.line : null, at: selected ? selected.at : null, panel,
     text: selected ? selected.text : null,
-    banded: banded ? banded.test : null, from: wave.from, to: wave.to, scroll: byId('chart').scrollTop,
+    banded: banded ? banded.test : null, from: wave.from, to: wave.to, scroll: byId('chart').scrollTop, byte: app.map.at,
   };
 }
 function backTo(before) {
   const { rows } = app.model;
+  if (before.byte !== null) app.map.select(before.byte, { isFocused: false });
   if (before.at === null || rows.length === 0) return;
   const same = rows.find(one => one.o && one.o.line === before.line);
   const alike = rows.filter(one => one.text === before.text && one.type !== 'gap');
@@ -108,6 +121,7 @@ async function run(keeps) {
     if (mine !== state.asked) return;
     if (keeps) backTo(before);
     fields.hidden = !app.model.isCapture;
+    copying.hidden = Boolean(app.model.edid);
     said.textContent = `run in ${found.took} ms, drawn in ${Math.round(performance.now() - began - found.took)} ms`;
   }
   markLines();
@@ -144,8 +158,15 @@ async function take(keeps) {
   if (!isEdited) await put();
 }
 
-/* A line of the script selects its row; a row its line. */
+/* A line of the script selects its row, a line of an EDID its bytes; a row or a byte its line. */
 function selectLine() {
+  if (app.map.edid) {
+    const cursor = area.value.slice(0, area.selectionStart).split('\n').length;
+    const place = linesOfEdid().filter(line => line <= cursor).length - 1;
+    const line = app.map.edid.lines[place];
+    if (line && line.to > line.from) app.map.select(line.from, { isFocused: false });
+    return;
+  }
   const number = area.value.slice(0, area.selectionStart).split('\n').length - firstOfScript() + 1;
   const { rows, tests } = app.model;
   const row = rows.find(one => one.type === 'event' && one.o.scriptLine === number);

@@ -3,7 +3,8 @@
 // `live` tells them.
 
 import { tieAnswers } from './answers.js';
-import { asList, asText, kindOf, lowerBound, readDump, readEdges, readFindings, readObjects } from './texts.js';
+import { edidOf } from './edid.js';
+import { asList, asText, kindOf, lowerBound, readBytes, readDump, readEdges, readFindings, readObjects } from './texts.js';
 import { readRoom, readSentences, smoothed, turned } from './texts.js';
 import { addressName } from './words.js';
 
@@ -23,8 +24,8 @@ export const isWave = text => ['dump', 'edges'].includes(kindOf(text));
 export function build(texts) {
   const model = {
     title: '', objects: [], tests: [], stretches: [], meanings: [], faults: [], lanes: [], rows: [], rounds: [], states: [],
-    ports: [], events: [], sentences: new Map(), names: new Map(), wave: null, room: null, findings: [],
-    changes: [], ofAll: [], hasAudit: false, isCapture: false, end: 1,
+    ports: [], events: [], sentences: new Map(), names: new Map(), wave: null, room: null, findings: [], bytes: [], parts: [],
+    edid: null, changes: [], ofAll: [], hasAudit: false, isCapture: false, end: 1,
   };
   const waves = [];
   for (const one of texts) {
@@ -34,7 +35,8 @@ export function build(texts) {
     else if (kind === 'room') model.room = readRoom(one.text);
     else if (kind === 'meaning') model.meanings.push(one);
     else if (kind === 'sentences') readSentences(one.text, model.sentences);
-    else if (kind === 'findings') model.findings.push(...readFindings(one.text));
+    else if (kind === 'findings') readFindings(one.text, model);
+    else if (kind === 'bytes') model.bytes = readBytes(one.text);
     else if (kind === 'plain') model.faults.push(`${one.name}: a plain text of the program; give the flag --json`);
     else if (kind === 'empty') model.faults.push(`${one.name}: empty`);
     else model.faults.push(`${one.name}: neither objects of hdminet nor a dump, an edge file or a room`);
@@ -53,6 +55,7 @@ export function build(texts) {
   addTests(model);
   model.events = model.rows.filter(row => row.type === 'event');
   compareWithStates(model);
+  model.edid = edidOf(model);
   for (const one of waves) addWave(model, one);
   return model;
 }

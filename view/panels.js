@@ -16,7 +16,7 @@ const PAGE_OF_TABLE = 200;
 
 /* The tabs: when each is there, and what it draws. */
 export const PANELS = {
-  selected: { name: 'Selected', isThere: () => true, draw: drawSelected },
+  selected: { name: 'Selected', isThere: model => model.rows.length > 0 || !model.edid, draw: drawSelected },
   look: { name: 'To look at', isThere: model => model.rows.length > 0, draw: drawToLookAt },
   report: { name: 'Report', isThere: model => model.tests.length > 0 || model.stretches.length > 0, draw: drawReport },
   table: { name: 'Table', isThere: model => model.rows.length > 0, draw: drawTable },
@@ -24,10 +24,13 @@ export const PANELS = {
   room: { name: 'Room', isThere: hasRoom, draw: drawRoom },
   devices: { name: 'At the end', isThere: model => model.states.length > 0, draw: drawDevices },
   talk: { name: 'Who sent what', isThere: model => model.rounds.length > 0, draw: drawTalk },
-  edids: { name: 'EDIDs', isThere: model => model.ports.length > 0 || model.meanings.length > 0, draw: drawEdids },
+  edids: { name: 'EDIDs', isThere: hasEdid, draw: drawEdids },
   notes: { name: 'Notes', isThere: model => model.faults.length > 0 || hasAudit(model), draw: drawNotes },
 };
 const hasAudit = model => model.ofAll.length > 0;
+function hasEdid({ ports, meanings, edid, findings }) {
+  return ports.length > 0 || meanings.length > 0 || Boolean(edid) || findings.length > 0;
+}
 
 const dim = text => html('p', { class: 'dim' }, text);
 const bad = text => html('span', { class: 'bad' }, text);
@@ -388,15 +391,10 @@ function drawTalk(app, model) {
   ];
 }
 
-/* A rule that an EDID breaks: what it asks with its section, and the value at fault, in the program's words. */
-const findingOf = ({ rule, said }) => html(
-  'div', { class: 'finding' }, html('code', { class: 'bad' }, rule), said.map(line => html('p', {}, line)),
-);
-
 /* The physical address in an EDID in hex: what follows the registration of HDMI's vendor block. */
 function physicalIn(edid) {
-  const i = edid.indexOf('030c00');
-  return i < 0 ? 'none' : [...edid.slice(i + 6, i + 10)].join('.');
+  const found = /^(?:..)*?030c00(....)/.exec(edid);
+  return found ? [...found[1]].join('.') : 'none';
 }
 function drawEdids(app, model) {
   const first = model.ports[0];
@@ -411,10 +409,11 @@ function drawEdids(app, model) {
   );
   const meant = line => [line.startsWith(' ') ? html('span', { class: 'dim' }, line) : line, '\n'];
   const meaning = ({ name, text }) => [html('h3', {}, name), html('pre', {}, text.split('\n').map(meant))];
+  const isBeside = model.edid && model.rows.length > 0; // the chart has the room of the map
   return [
-    model.findings.length > 0 && [html('h3', {}, 'Rules that it breaks'), model.findings.map(findingOf)],
+    isBeside && app.map.root, app.map.panel(model.findings),
     model.ports.map(port), model.ports.length > 1 && dim('Red: bytes that the first one has otherwise.'),
-    model.meanings.map(meaning),
+    model.meanings.slice(model.edid && model.edid.lines.length > 0 ? 1 : 0).map(meaning),
   ];
 }
 
@@ -435,7 +434,9 @@ const COMMANDS = [
   ['./hdminet check --json < x.test > report.jsonl', 'a report of tests'],
   ['./hdminet mon --audit --json < capture.vcd > x.jsonl', 'a capture and its audit: also capture.vcd itself'],
   ['./hdminet dis --meaning < frames.hex > x.meant', 'what frames mean, by their bytes in hex'],
-  ['./hdminet edid --meaning < tv.edid > tv.meaning', 'an EDID'],
+  ['tv.edid', 'an EDID, its bytes; also in hex, as xxd -p writes it'],
+  ['./hdminet edid --meaning < tv.edid > tv.meaning', 'what its lines mean'],
+  ['./hdminet edid --json < tv.edid > tv.fields', 'of which field each bit is'],
   ['./hdminet edid --check --explain < tv.edid 2> tv.rules', 'and the rules that it breaks'],
 ];
 export const commands = () =>
@@ -465,6 +466,7 @@ export function help() {
     ['w c', 'to the wave, to the chart; Tab to all parts'],
     ['+ - ← → 0 f', 'in the wave: zoom, pan, all, the selected round'],
     [', . < >', 'in the wave: cursor A and B to the edge before, after'],
+    ['← → ↑ ↓ PgUp PgDn n N', 'bytes of an EDID: to the next one, line, and broken rule'],
     ['o e m t ?', 'open, SVG, Mermaid, light or dark, this'],
   ];
   const searches = [

@@ -1,12 +1,17 @@
 // The texts that the program writes and reads, from characters to plain values. Nothing here draws, and nothing trusts its
 // input: each field is brought to its type in one place, and a line that is none of the program's is counted and named.
 
+const MOST_OF_EDID = 4 * 128; // bytes
+const isHexOfEdid = text =>
+  text.length < 4 * MOST_OF_EDID && /^\s*00\s*(ff\s*){6}00/i.test(text) && /^[0-9a-f]*$/i.test(text.replace(/\s/g, ''));
+
 /* What a text is, by its first line: files may come in any order. */
 export function kindOf(text) {
   const first = /^\s*(.*)/.exec(text)[1];
   if (/^\s*\{/.test(first)) return 'objects';
   if (/^(\$|META )/.test(first)) return 'dump';
   if (/^edid 1\.\d/.test(first)) return 'meaning';
+  if (isHexOfEdid(text)) return 'bytes';
   if (/^(warn|fail) [a-z-]+/.test(first)) return 'findings';
   if (/^[0-9a-f]>[0-9a-f]( |$)/.test(first)) return 'sentences';
   if (/^TAP version|^\d+ event \d|^\d+ port \w/.test(first)) return 'plain';
@@ -18,6 +23,9 @@ export function kindOf(text) {
 
 /* Whether objects are those of an audit: beside a run they tell of its rounds. */
 export const isAudit = text => kindOf(text) === 'objects' && /"type":"(summary|remark|note)"/.test(text);
+
+/* Whether objects are those of an EDID: its fields, or the rules that it breaks. */
+export const isOfBytes = text => kindOf(text) === 'objects' && /"type":"(part|finding)"/.test(text.slice(0, 2000));
 
 export const asText = value => (value === null || value === undefined ? '' : String(value));
 const asNumber = value => (typeof value === 'number' && Number.isFinite(value) ? value : null);
@@ -42,14 +50,37 @@ export function readSentences(text, sentences) {
   }
 }
 
+/* A rule that an EDID breaks, by its line: that of the objects of `edid --check --json` is that of the words beside it. */
+function findingOf(line, model) {
+  let found = model.findings.find(one => one.line === line);
+  if (!found) model.findings.push((found = { line, timing: null, said: [] }));
+  return found;
+}
+
 /* What `edid --check --explain` says of an EDID: each rule that it breaks, with what the rule asks and the values at fault. */
-export function readFindings(text) {
-  const findings = [];
+export function readFindings(text, model) {
+  let last = null;
   for (const line of text.split('\n')) {
-    if (/^(fail|warn) /.test(line)) findings.push({ rule: line, said: [] });
-    else if (line.startsWith('  ') && findings.length > 0) findings[findings.length - 1].said.push(line.trim());
+    if (/^(fail|warn) /.test(line)) last = findingOf(line, model);
+    else if (line.startsWith('  ') && last) last.said.push(line.trim());
   }
-  return findings;
+}
+
+const NO_PLACE = { part: null, from: 0, to: 0 };
+/* The lines of `edid --meaning`, each with those below it that say what it means. */
+export function readMeaning(text) {
+  const lines = [];
+  for (const line of text.split('\n')) {
+    if (line.startsWith(' ') && lines.length > 0) lines[lines.length - 1].meanings.push(line.trim());
+    else if (line !== '') lines.push({ ...NO_PLACE, text: line, word: line.split(' ')[0], number: lines.length, meanings: [] });
+  }
+  return lines;
+}
+
+/* The bytes of an EDID in hex. */
+export function readBytes(text) {
+  const bytes = text.replace(/\s/g, '').match(/../g) || [];
+  return bytes.slice(0, MOST_OF_EDID).map(byte => parseInt(byte, 16));
 }
 
 /* An object of a run, of a reading, of what an audit says of the last reading, or of a device at an instant. */
@@ -104,6 +135,14 @@ export function readObjects(text, model) {
       test.window = object;
     } else if (object.type === 'stretch') {
       model.stretches.push(object);
+    } else if (object.type === 'finding') {
+      findingOf(object.line, model).timing = object.timing;
+    } else if (object.type === 'part') {
+      model.parts.push(object);
+    } else if (object.type === 'field') {
+      const part = model.parts[model.parts.length - 1];
+      if (part && object.at >= part.from && object.at < part.to) part.fields.push(object);
+      else model.faults.push(`line ${index + 1} is a field of no part`);
     } else if (['device', 'plug', 'edid', 'pulse', 'pull', 'pin'].includes(object.type)) {
       addHead(object, (model.room ||= emptyRoom()));
     } else {
@@ -116,6 +155,14 @@ export function readObjects(text, model) {
   for (const [type, count] of unknown) {
     model.faults.push(`${count} of the type ${type.slice(0, 40)}, which this page does not know`);
   }
+}
+
+export const BLOCK = 128; // bytes of a block of an EDID
+const asBelow = (value, most) => (Number.isInteger(value) && value >= 0 && value < most ? value : null);
+/* Which byte of an EDID an object tells of. */
+function placeOf({ block, byte }) {
+  const [first, within] = [asBelow(block, MOST_OF_EDID / BLOCK), asBelow(byte, BLOCK)];
+  return first === null || within === null ? null : BLOCK * first + within;
 }
 
 /* An object with each field of its type; null where one lacks that has to be there, undefined where its type is not known. */
@@ -160,6 +207,19 @@ function cleaned(o) {
       return { type, line, kind: asText(o[type]), section: asText(o.section), attempt: asNumber(o.attempt) };
     case 'horizon':
       return { type, line, at: asNumber(o.at) };
+    case 'finding':
+      return { type, line, timing: asNumber(o.timing) };
+    case 'part': {
+      const [from, bytes] = [placeOf(o), /^([0-9a-f]{2})+$/.test(o.bytes) ? readBytes(o.bytes) : []];
+      if (from === null || bytes.length === 0 || from % BLOCK + bytes.length > BLOCK) return null;
+      const [cut, left] = [asNumber(o.cut) || 0, asNumber(o.left) || 0];
+      return { type, line, from, to: from + bytes.length, bytes, name: asText(o.name), cut, left, fields: [] };
+    }
+    case 'field': {
+      const [at, high, low, value] = [placeOf(o), asBelow(o.high, 8), asBelow(o.low, 8), asBelow(o.value, 256)];
+      if (at === null || high === null || low === null || value === null || high < low) return null;
+      return { type, line, at, high, low, value, name: asText(o.name), meaning: asText(o.meaning), found: asText(o.found) };
+    }
     case 'summary':
     case 'sender':
     case 'widths':

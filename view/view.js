@@ -1,6 +1,7 @@
 // The page: data in, selection, search, keys. Its parts are linked: what is selected in one is shown in all.
 
-import { aligned } from './beside.js';
+import { besideOf, differing } from './beside.js';
+import { ByteMap } from './bytes.js';
 import { asMermaid, Chart } from './chart.js';
 import { byId, counted, html } from './elements.js';
 import { finder, makeReady } from './find.js';
@@ -8,7 +9,7 @@ import { addWave, build, isWave } from './model.js';
 import { commands, drawSweep, help, PANELS } from './panels.js';
 import { acknowledgersOf, slotsOf } from './slots.js';
 import { nearest, Strip, timeInAddress } from './strip.js';
-import { asText, isAudit, kindOf, readDump } from './texts.js';
+import { asText, isAudit, isOfBytes, kindOf, readDump } from './texts.js';
 import { meaningOf } from './words.js';
 import { Wave, wavesHeight } from './wave.js';
 
@@ -42,6 +43,8 @@ class App {
   strip = null;
   chart = null;
   wave = null;
+  map = null;
+  mapBeside = null;
   quiet = 0;
   telling = 0;
   /* What else is to be done where a row is selected. */
@@ -51,6 +54,8 @@ class App {
     this.strip = new Strip(this, byId('strip'));
     this.chart = new Chart(this, byId('chart'), byId('heads'), byId('space'));
     this.wave = new Wave(this, byId('line'), byId('reading'));
+    this.map = new ByteMap(this);
+    this.mapBeside = new ByteMap(this, true);
   }
 
   /* Shows the data of a page. */
@@ -79,7 +84,7 @@ class App {
   }
   /* The run that stands beside this one, and both aligned, which is done once. */
   besideOf(model) {
-    if (!model.beside) model.beside = aligned(model.rows, this.other.rows);
+    if (!model.beside) model.beside = besideOf(model, this.other);
     return model.beside;
   }
   async readBeside() {
@@ -92,6 +97,15 @@ class App {
     this.model.isBeside = true;
     this.panel = 'beside';
     const { pairs } = this.besideOf(this.model);
+    if (this.model.edid && this.other.edid) {
+      this.mapBeside.show(this.other.edid);
+      [this.map, this.mapBeside].forEach((map, which) => {
+        const bytes = differing(pairs, which);
+        map.mark('differs', at => bytes.has(at));
+      });
+      this.drawPanel();
+      return;
+    }
     const first = pairs.find(([one, other]) => one && !other);
     if (first) this.select(first[0], { keepsPanel: true });
     this.drawPanel();
@@ -177,17 +191,30 @@ class App {
     this.panel = this.firstPanel();
     const isEmpty = model.rounds.length === 0 && !model.wave && !this.isWaiting;
     for (const id of ['wave', 'wave-bar', 'strip']) byId(id).hidden = isEmpty;
+    this.map.show(model.edid);
+    const { isOfEdid } = this;
+    document.body.classList.toggle('edid', isOfEdid);
+    byId('chart').hidden = isOfEdid;
+    byId('bytes').hidden = !isOfEdid;
+    byId('bytes').replaceChildren(...(isOfEdid ? [this.map.root] : []));
     this.filter();
     this.showWave();
-    const rowsAreThere = model.rows.length > 0;
+    const isThere = model.rows.length > 0 || isOfEdid;
     setTimeout(() => makeReady(model), 100);
     const failure = model.tests.find(test => !test.holds);
     if (failure) this.showTest(failure);
     else this.drawPanel();
-    if (rowsAreThere) this.goToAddress();
+    if (isThere) this.goToAddress();
+  }
+  /* Whether the map of an EDID's bytes stands in the place of the chart. */
+  get isOfEdid() {
+    const { edid, rows, tests, stretches } = this.model;
+    return Boolean(edid) && rows.length + tests.length + stretches.length === 0;
   }
   countsText() {
-    const { rounds, tests, faults } = this.model;
+    const { rounds, tests, faults, edid, findings } = this.model;
+    const ofEdid = edid && [counted(edid.bytes.length, 'byte'), counted(findings.length, 'broken rule')].join(', ');
+    if (edid && rounds.length === 0) return ofEdid;
     if (rounds.length === 0 && tests.length === 0) return '';
     const failed = tests.filter(test => !test.holds).length;
     const all = counted(tests.length, 'test');
@@ -197,8 +224,9 @@ class App {
     ].filter(Boolean).join(', ');
   }
   firstPanel() {
-    const { tests, stretches, faults, rows, meanings } = this.model;
+    const { tests, stretches, faults, rows, meanings, edid } = this.model;
     if (tests.length > 0 || stretches.length > 0) return 'report';
+    if (edid && rows.length === 0) return 'edids';
     if (faults.length > 0 && rows.length === 0) return 'notes';
     return rows.length > 0 ? 'look' : meanings.length > 0 ? 'edids' : 'selected';
   }
@@ -214,17 +242,19 @@ class App {
     else wave.showAll();
   }
   async loadFiles(files) {
-    const texts = await Promise.all([...files].map(async file => ({ name: file.name, text: await file.text() })));
+    const texts = await Promise.all([...files].map(async file => ({ name: file.name, text: await readFile(file) })));
     if (texts.length > 0) await this.loadGiven(texts);
   }
-  /* Objects are a new run; anything else, also the audit of a run's line, is added to what is there. */
+  /* Objects are a new run, and bytes another EDID where there is one. Anything else is added to what is there, also the audit of
+     a run's line and the fields of an EDID. */
   loadGiven(texts) {
     this.data = null;
     this.reading = 0;
     this.showBanner();
     const isRun = this.model.rounds.length > 0 && !this.model.isCapture;
-    const isMore = ({ text }) => kindOf(text) !== 'objects' || (isRun && isAudit(text));
-    return this.load(texts, this.texts.length > 0 && texts.every(isMore));
+    const isMore = ({ text }) => kindOf(text) !== 'objects' || isOfBytes(text) || (isRun && isAudit(text));
+    const isAnother = this.model.bytes.length > 0 && texts.some(({ text }) => kindOf(text) === 'bytes');
+    return this.load(texts, this.texts.length > 0 && !isAnother && texts.every(isMore));
   }
   loadPasted(text) {
     if (text.trim()) this.loadGiven([{ name: 'pasted', text }]);
@@ -248,9 +278,11 @@ class App {
       }
     }
     this.chart.show(rows);
+    this.map.search(byId('search').value);
     if (this.selected) this.chart.reveal(this.selected);
     this.drawStrip(true);
     if (this.panel === 'table') this.openTable(null);
+    else if (this.panel === 'edids') this.drawPanel();
   }
   isFoldedInto(row, last) {
     if (row.type !== 'round' || last.type !== 'round' || this.unfolded.has(row.first)) return false;
@@ -345,7 +377,8 @@ class App {
       click: () => this.openPanel(name),
     }, panel.name);
     byId('tabs').replaceChildren(...Object.entries(PANELS).filter(([, panel]) => panel.isThere(model)).map(tab));
-    const isEmpty = [model.rows, model.faults, model.tests, model.stretches, model.meanings].every(list => list.length === 0);
+    const { rows, faults, tests, stretches, meanings, findings } = model;
+    const isEmpty = !model.edid && [rows, faults, tests, stretches, meanings, findings].every(list => list.length === 0);
     const content = isEmpty ? [html('p', { class: 'dim' }, 'No data yet.')] : PANELS[this.panel].draw(this, model);
     byId('panel').replaceChildren(html('div', {}, content));
     const counts = new Map();
@@ -389,14 +422,16 @@ class App {
     const row = nearest(this.chart.shown.filter(one => one.type !== 'gap'), instant);
     if (row) this.select(row);
   }
-  /* The selected moment stands in the page's address, to share it: `#t=1.068400&sel=5`. */
+  /* The selected moment stands in the page's address, to share it: `#t=1.068400&sel=5`; of an EDID the byte, `#byte=134`. */
   tellAddress() {
     clearTimeout(this.telling);
-    const { selected } = this;
-    if (!selected) return;
+    const { selected, map } = this;
+    const ofByte = map.at === null ? '' : `#byte=${map.at}`;
+    const address = selected ? `#t=${timeInAddress(selected)}&sel=${selected.index}` : ofByte;
+    if (!address) return;
     this.telling = setTimeout(() => {
       try {
-        history.replaceState(null, '', `#t=${timeInAddress(selected)}&sel=${selected.index}`);
+        history.replaceState(null, '', address);
       } catch {
         // a browser that does not let a file have an address of its own
       }
@@ -404,6 +439,8 @@ class App {
   }
   /* Goes to the moment that the address names, and says whether it names one. */
   goToAddress() {
+    const byte = /^#byte=(\d+)$/.exec(location.hash);
+    if (byte) this.map.select(Number(byte[1]), { isFocused: false });
     const found = /^#t=(\d+(?:\.\d+)?)(?:&sel=(\d+))?$/.exec(location.hash);
     if (!found) return false;
     const row = this.model.rows[Number(found[2])];
@@ -437,14 +474,15 @@ class App {
     this.wave.drawSoon();
   }
 
-  tooMany() {
+  hasNoPicture() {
     const { length } = this.chart.shown;
+    if (length === 0) this.say('no rows for a picture');
     if (length > MOST_EXPORTED) this.say(`${length} rows are too many for a picture: search first, up to ${MOST_EXPORTED}.`);
-    return length > MOST_EXPORTED;
+    return length === 0 || length > MOST_EXPORTED;
   }
   /* The rows shown as one SVG, in the colours of the page. */
   exportSvg() {
-    if (this.tooMany()) return;
+    if (this.hasNoPicture()) return;
     const rules = [...document.styleSheets].flatMap(sheet => [...sheet.cssRules]).map(rule => rule.cssText);
     const isDark = document.documentElement.dataset.theme === 'dark';
     const colours = rules.find(rule => rule.startsWith(isDark ? ':root[data-theme' : ':root {')).replace(/^[^{]*/, 'svg ');
@@ -460,7 +498,7 @@ class App {
     this.say(`${this.chart.shown.length} rows as SVG, ${Math.ceil(this.exportedText.length / 1024)} KiB`);
   }
   copyMermaid() {
-    if (this.tooMany()) return;
+    if (this.hasNoPicture()) return;
     this.exportedText = asMermaid(this.model, this.chart.shown);
     this.copy(this.exportedText);
   }
@@ -518,6 +556,8 @@ class App {
     }
     if (isInput(target) || event.ctrlKey || event.metaKey || event.altKey || byId('dialog').open) return;
     const isOfChart = /^(BODY|SECTION)$/.test(target.tagName);
+    if (isOfChart && this.isOfEdid) this.map.key(event);
+    if (event.defaultPrevented) return;
     const isOfTabs = target.getAttribute('role') === 'tab';
     const keys = { ...this.pageKeys(), ...(isOfChart ? this.chartKeys() : {}), ...(isOfTabs ? this.tabKeys() : {}) };
     if (!Object.hasOwn(keys, event.key)) return;
@@ -534,9 +574,9 @@ class App {
       m: () => this.copyMermaid(),
       t: () => this.setTheme(),
       w: () => byId('line').focus(),
-      c: () => byId('chart').focus(),
-      n: () => this.goToFailed(1),
-      N: () => this.goToFailed(-1),
+      c: () => (this.isOfEdid ? this.map.focus() : byId('chart').focus()),
+      n: () => (this.isOfEdid ? this.map.next(1) : this.goToFailed(1)),
+      N: () => (this.isOfEdid ? this.map.next(-1) : this.goToFailed(-1)),
     };
   }
   chartKeys() {
@@ -579,6 +619,13 @@ class App {
     }
     this.say('no further one');
   }
+}
+
+/* The text of a file; of an EDID that is bytes these in hex. */
+async function readFile(file) {
+  const bytes = new Uint8Array(await file.arrayBuffer());
+  const isEdid = [0, 255, 255, 255, 255, 255, 255, 0].every((byte, i) => bytes[i] === byte);
+  return isEdid ? [...bytes].map(byte => byte.toString(16).padStart(2, '0')).join('') : new TextDecoder().decode(bytes);
 }
 
 /* A bar between two parts, moved by the mouse or by arrow keys. */
