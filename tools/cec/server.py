@@ -67,22 +67,22 @@ class Wait:
     """A thread that waits: for so many microseconds, until a handle is ready or a descriptor can be read, or until another thread wakes this wait by
     its number."""
 
-    def __init__(self, server, link, thread, serial, watched, descriptors):
-        self.server, self.link, self.thread, self.serial, self.watched, self.descriptors = server, link, thread, serial, watched, descriptors
-        self.is_over = False
+    def __init__(self, server, link, thread, micros, serial, watched, descriptors):
+        self.server, self.link, self.thread, self.micros, self.serial = server, link, thread, micros, serial
+        self.watched, self.descriptors, self.is_over, self.timer = watched, descriptors, False, None
 
-    def begin(self, micros):
+    def begin(self):
         for handle, _ in self.watched:
             handle.watchers.append(self.look)
-        self.look(micros == 0)
+        self.look(self.micros == 0)
         for descriptor in self.descriptors if not self.is_over else []:
             try:
                 self.server.selector.register(descriptor, selectors.EVENT_READ, lambda: self.end(1))
             except PermissionError:
                 # What cannot be watched, as a file, can be read.
                 self.end(1)
-        if not self.is_over and micros < FOR_EVER:
-            self.server.limit(self.thread, micros, lambda: self.look(True))
+        if not self.is_over and self.micros < FOR_EVER:
+            self.server.limit(self)
 
     def look(self, is_late=False):
         ready = [wanted & handle.state() for handle, wanted in self.watched]
@@ -106,6 +106,7 @@ class Wait:
                 self.server.selector.unregister(descriptor)
             os.close(descriptor)
         self.server.waits.pop(self.thread.number, None)
+        self.server.forget_limit(self)
 
 
 class Server:
@@ -269,10 +270,10 @@ class Server:
         """A process has its first device: from now on its threads count, and what they wait for is in the room's time."""
         for number in self.processes[pid].threads - self.processes[pid].resting:
             self.works(Thread(number, pid))
-        late = [timer for timer in self.wall_timers if timer[1].process == pid]
-        self.wall_timers = [timer for timer in self.wall_timers if timer not in late]
-        for _, thread, micros, call in late:
-            self.limit(thread, micros, call)
+        late = [wait for _, wait in self.wall_timers if wait.thread.process == pid]
+        self.wall_timers = [timer for timer in self.wall_timers if timer[1] not in late]
+        for wait in late:
+            self.limit(wait)
 
     def call(self, link, number, call, given, nonblock, thread):
         handle = self.handles.get(number)
@@ -287,20 +288,28 @@ class Server:
         micros, serial, count = WAITED.unpack(given[:WAITED.size])
         asked = [INTEREST.unpack_from(given, WAITED.size + INTEREST.size * at) for at in range(count)]
         watched = [(self.handles.get(number), wanted) for number, wanted in asked]
-        wait = Wait(self, link, thread, serial, [(handle, wanted) for handle, wanted in watched if handle], descriptors)
+        wait = Wait(self, link, thread, micros, serial, [(handle, wanted) for handle, wanted in watched if handle], descriptors)
         self.waits[thread.number] = wait
         if serial and self.woken.pop(thread.number, None) == serial:
             wait.end(1)
         else:
-            wait.begin(micros)
+            wait.begin()
 
-    def limit(self, thread, micros, call):
-        """Calls after so many microseconds: of the room, or of the clock on the wall where the process does not count."""
-        process = self.processes.get(thread.process)
+    def limit(self, wait):
+        """Ends a wait when its time is over: of the room, or of the clock on the wall where the process does not count."""
+        process = self.processes.get(wait.thread.process)
         if process and not process.is_seated:
-            self.wall_timers.append((time.monotonic() + micros / 1e6, thread, micros, call))
+            self.wall_timers.append((time.monotonic() + wait.micros / 1e6, wait))
         else:
-            self.timers.append((self.clock.began + (self.room.horizon + micros) / 1e6, call))
+            wait.timer = self.clock.began + (self.room.horizon + wait.micros) / 1e6, lambda: wait.look(True)
+            self.timers.append(wait.timer)
+
+    def forget_limit(self, wait):
+        """A wait is over. Threads wake each other before most of their time-outs, which then are no turns of the room."""
+        self.wall_timers = [timer for timer in self.wall_timers if timer[1] is not wait]
+        process = self.processes.get(wait.thread.process)
+        if wait.timer in self.timers and process and process.threads:
+            self.timers.remove(wait.timer)
 
     # Threads.
 
@@ -430,12 +439,12 @@ class Server:
             adapter.end_late_replies()
         now = self.clock.now() + 1e-9
         for timer in [timer for timer in self.timers if timer[0] <= now]:
-            self.timers.remove(timer)
-            timer[1]()
+            if timer in self.timers:
+                self.timers.remove(timer)
+                timer[1]()
         wall = time.monotonic()
-        for late in [late for late in self.wall_timers if late[0] <= wall]:
-            self.wall_timers.remove(late)
-            late[3]()
+        for wait in [wait for until, wait in self.wall_timers if until <= wall]:
+            wait.look(True)
 
     def watch_stall(self):
         """In the room's time a program that never waits holds all others up."""

@@ -56,11 +56,15 @@ struct question question_of(uint32_t asked, uint32_t handle, uint32_t call);
 int send_question(int link, const struct question *question, int descriptor);
 ssize_t receive_answer(int link, struct answer *answer);
 
-/* waits.c: a lock of the library's own; whether the process lives in the room's time; the room's instant so many microseconds from now, and of a time of one
- * of its clocks; how many microseconds there are until an instant, and in a time. */
+/* waits.c: a lock of the library's own; whether the process lives in the room's time, and whether what waits does so in packets to the server. */
 void hold(void);
 void let_go(void);
 int is_in_room_time(void);
+int waits_in_room(void);
+
+/* waits.c: the room's instant so many microseconds from now, and of a time of one of its clocks; whether that is CLOCK_REALTIME; how many microseconds there
+ * are until an instant, and in a time. */
+int is_of_real(const struct timespec *at);
 uint64_t in(uint64_t micros), instant_of(const struct timespec *at), until(uint64_t instant), micros_of(const struct timespec *of);
 
 /* waits.c: waits for so many microseconds, or until one of these handles is ready, a descriptor (or -1) can be read, or another thread wakes the wait of this

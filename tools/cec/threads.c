@@ -134,6 +134,19 @@ static int take(void *of, int (*tries)(void *), uint64_t instant, int ends_by_si
     }
 }
 
+/* A limit as the C library takes it, where the process waits by the clock on the wall: what is left of it in the room's time, from now on. */
+static struct timespec by_wall(const struct timespec *at)
+{
+    if (!is_in_room_time())
+        return *at;
+    uint64_t left = until(instant_of(at));
+    struct timespec now;
+    BELOW(clock_gettime);
+    below(is_of_real(at) ? CLOCK_REALTIME : CLOCK_MONOTONIC, &now);
+    uint64_t nanos = now.tv_nsec + left * 1000;
+    return (struct timespec){ now.tv_sec + nanos / 1000000000, nanos % 1000000000 };
+}
+
 /* Mutexes. One that is its own thread's is left to the C library. */
 static int try_mutex(void *of) { return pthread_mutex_trylock(of); }
 static int is_mine(const pthread_mutex_t *of) { return of->__data.__owner == (int)question_of(WAIT, 0, 0).thread; }
@@ -151,14 +164,16 @@ int pthread_mutex_lock(pthread_mutex_t *of)
 int pthread_mutex_timedlock(pthread_mutex_t *restrict of, const struct timespec *restrict at)
 {
     BELOW(pthread_mutex_timedlock);
+    struct timespec limit = by_wall(at);
     int result = has_threads() ? take_mutex(of, instant_of(at)) : EBUSY;
-    return result == EBUSY ? below(of, at) : result;
+    return result == EBUSY ? below(of, &limit) : result;
 }
 int pthread_mutex_clocklock(pthread_mutex_t *restrict of, clockid_t which, const struct timespec *restrict at)
 {
     BELOW(pthread_mutex_clocklock);
+    struct timespec limit = by_wall(at);
     int result = has_threads() ? take_mutex(of, instant_of(at)) : EBUSY;
-    return result == EBUSY ? below(of, which, at) : result;
+    return result == EBUSY ? below(of, which, &limit) : result;
 }
 int pthread_mutex_unlock(pthread_mutex_t *of)
 {
@@ -172,20 +187,32 @@ int pthread_mutex_unlock(pthread_mutex_t *of)
 /* Locks for readers and writers. */
 static int try_reading(void *of) { return pthread_rwlock_tryrdlock(of); }
 static int try_writing(void *of) { return pthread_rwlock_trywrlock(of); }
-#define TAKES_RWLOCK(name, tries, instant, parameters, ...) \
-    int name parameters                                    \
+#define TAKES_RWLOCK(name, tries)                          \
+    int name(pthread_rwlock_t *of)                         \
     {                                                      \
         BELOW(name);                                       \
-        return has_threads() ? take(of, tries, instant, 0) : below(__VA_ARGS__); \
+        return has_threads() ? take(of, tries, FOR_EVER, 0) : below(of); \
     }
-TAKES_RWLOCK(pthread_rwlock_rdlock, try_reading, FOR_EVER, (pthread_rwlock_t *of), of)
-TAKES_RWLOCK(pthread_rwlock_wrlock, try_writing, FOR_EVER, (pthread_rwlock_t *of), of)
-TAKES_RWLOCK(pthread_rwlock_timedrdlock, try_reading, instant_of(at), (pthread_rwlock_t *restrict of, const struct timespec *restrict at), of, at)
-TAKES_RWLOCK(pthread_rwlock_timedwrlock, try_writing, instant_of(at), (pthread_rwlock_t *restrict of, const struct timespec *restrict at), of, at)
-TAKES_RWLOCK(pthread_rwlock_clockrdlock, try_reading, instant_of(at), (pthread_rwlock_t *restrict of, clockid_t which, const struct timespec *restrict at),
-    of, which, at)
-TAKES_RWLOCK(pthread_rwlock_clockwrlock, try_writing, instant_of(at), (pthread_rwlock_t *restrict of, clockid_t which, const struct timespec *restrict at),
-    of, which, at)
+#define TAKES_RWLOCK_UNTIL(name, tries)                    \
+    int name(pthread_rwlock_t *restrict of, const struct timespec *restrict at) \
+    {                                                      \
+        BELOW(name);                                       \
+        struct timespec limit = by_wall(at);               \
+        return has_threads() ? take(of, tries, instant_of(at), 0) : below(of, &limit); \
+    }
+#define TAKES_RWLOCK_BY_CLOCK(name, tries)                 \
+    int name(pthread_rwlock_t *restrict of, clockid_t which, const struct timespec *restrict at) \
+    {                                                      \
+        BELOW(name);                                       \
+        struct timespec limit = by_wall(at);               \
+        return has_threads() ? take(of, tries, instant_of(at), 0) : below(of, which, &limit); \
+    }
+TAKES_RWLOCK(pthread_rwlock_rdlock, try_reading)
+TAKES_RWLOCK(pthread_rwlock_wrlock, try_writing)
+TAKES_RWLOCK_UNTIL(pthread_rwlock_timedrdlock, try_reading)
+TAKES_RWLOCK_UNTIL(pthread_rwlock_timedwrlock, try_writing)
+TAKES_RWLOCK_BY_CLOCK(pthread_rwlock_clockrdlock, try_reading)
+TAKES_RWLOCK_BY_CLOCK(pthread_rwlock_clockwrlock, try_writing)
 int pthread_rwlock_unlock(pthread_rwlock_t *of)
 {
     BELOW(pthread_rwlock_unlock);
@@ -211,12 +238,14 @@ int sem_wait(sem_t *of)
 int sem_timedwait(sem_t *restrict of, const struct timespec *restrict at)
 {
     BELOW(sem_timedwait);
-    return has_threads() ? take_semaphore(of, instant_of(at)) : below(of, at);
+    struct timespec limit = by_wall(at);
+    return waits_in_room() ? take_semaphore(of, instant_of(at)) : below(of, &limit);
 }
 int sem_clockwait(sem_t *restrict of, clockid_t which, const struct timespec *restrict at)
 {
     BELOW(sem_clockwait);
-    return has_threads() ? take_semaphore(of, instant_of(at)) : below(of, which, at);
+    struct timespec limit = by_wall(at);
+    return waits_in_room() ? take_semaphore(of, instant_of(at)) : below(of, which, &limit);
 }
 int sem_post(sem_t *of)
 {
@@ -249,12 +278,14 @@ int pthread_cond_wait(pthread_cond_t *restrict of, pthread_mutex_t *restrict mut
 int pthread_cond_timedwait(pthread_cond_t *restrict of, pthread_mutex_t *restrict mutex, const struct timespec *restrict at)
 {
     BELOW(pthread_cond_timedwait);
-    return has_threads() ? await(of, mutex, instant_of(at)) : below(of, mutex, at);
+    struct timespec limit = by_wall(at);
+    return waits_in_room() ? await(of, mutex, instant_of(at)) : below(of, mutex, &limit);
 }
 int pthread_cond_clockwait(pthread_cond_t *restrict of, pthread_mutex_t *restrict mutex, clockid_t which, const struct timespec *restrict at)
 {
     BELOW(pthread_cond_clockwait);
-    return has_threads() ? await(of, mutex, instant_of(at)) : below(of, mutex, which, at);
+    struct timespec limit = by_wall(at);
+    return waits_in_room() ? await(of, mutex, instant_of(at)) : below(of, mutex, which, &limit);
 }
 int pthread_cond_signal(pthread_cond_t *of)
 {
@@ -279,7 +310,7 @@ long syscall(long number, ...)
         given[i] = va_arg(rest, long);
     va_end(rest);
     BELOW(syscall);
-    int command = number == SYS_futex && has_threads() ? given[1] & FUTEX_CMD_MASK : -1;
+    int command = number == SYS_futex && waits_in_room() ? given[1] & FUTEX_CMD_MASK : -1;
     if (command == FUTEX_WAIT || command == FUTEX_WAIT_BITSET) {
         const struct timespec *limit = (const struct timespec *)given[3];
         uint64_t instant = !limit ? FOR_EVER : command == FUTEX_WAIT ? in(micros_of(limit)) : instant_of(limit);

@@ -70,8 +70,7 @@ int is_in_room_time(void)
     is_tried = 1;
     return room_clock != 0;
 }
-/* Whether what waits does so in packets to the server. */
-static int waits_in_room(void) { return is_in_room_time() && (has_seat() || has_threads()); }
+int waits_in_room(void) { return is_in_room_time() && (has_seat() || has_threads()); }
 
 int wait_in_room(uint64_t micros, struct interest *of, uint32_t count, int descriptor, uint32_t serial)
 {
@@ -104,9 +103,10 @@ uint64_t until(uint64_t instant)
 }
 uint64_t micros_of(const struct timespec *of) { return of->tv_sec * 1000000ULL + (of->tv_nsec + 999) / 1000; }
 /* CLOCK_REALTIME is decades ahead of CLOCK_MONOTONIC, so the time says whose it is. */
+int is_of_real(const struct timespec *at) { return at->tv_sec * 1000000000ULL > room_clock->real / 2; }
 uint64_t instant_of(const struct timespec *at)
 {
-    uint64_t began = (at->tv_sec * 1000000000ULL > room_clock->real / 2 ? room_clock->real : room_clock->monotonic) / 1000, micros = micros_of(at);
+    uint64_t began = (is_of_real(at) ? room_clock->real : room_clock->monotonic) / 1000, micros = micros_of(at);
     return micros > began ? micros - began : 0;
 }
 
