@@ -26,6 +26,7 @@ int has_threads(void) { return __atomic_load_n(&threads, __ATOMIC_SEQ_CST) > 0; 
 /* A thread that waits for another one; in order of arrival. Each wait has a number. */
 struct waiting {
     const void *of;
+    pthread_t by;
     uint32_t thread, serial;
     int is_woken;
     struct waiting *next;
@@ -35,7 +36,7 @@ static uint32_t last_serial;
 
 static void enlist(struct waiting *mine, const void *of)
 {
-    *mine = (struct waiting){ .of = of, .thread = question_of(WAIT, 0, 0).thread };
+    *mine = (struct waiting){ .of = of, .by = pthread_self(), .thread = question_of(WAIT, 0, 0).thread };
     hold();
     mine->serial = ++last_serial ? last_serial : ++last_serial;
     struct waiting **last = &first_waiting;
@@ -72,8 +73,8 @@ static void tell(const struct question *question)
     errno = saved;
 }
 
-/* Wakes at most so many threads that wait for this. Returns how many. */
-static int wake(const void *of, int most)
+/* Wakes at most so many threads that wait for this, or (where that is 0) this thread, whatever it waits for. Returns how many. */
+static int wake_those(const void *of, pthread_t thread, int most)
 {
     int woken = 0;
     __atomic_thread_fence(__ATOMIC_SEQ_CST);
@@ -81,7 +82,7 @@ static int wake(const void *of, int most)
         struct question question = { .asked = 0 };
         hold();
         for (struct waiting **at = &first_waiting; *at; at = &(*at)->next)
-            if ((*at)->of == of) {
+            if (of ? (*at)->of == of : pthread_equal((*at)->by, thread)) {
                 question = question_of(WAKE, (*at)->thread, (*at)->serial);
                 (*at)->is_woken = 1;
                 *at = (*at)->next;
@@ -95,9 +96,10 @@ static int wake(const void *of, int most)
     }
     return woken;
 }
+static int wake(const void *of, int most) { return wake_those(of, 0, most); }
 
 /* Waits until another thread has taken this one off the list: 0; ETIMEDOUT at this instant of the room; or EINTR, where a signal ends the wait. A thread that
- * is cancelled stays until then, since the list goes over its stack. */
+ * is cancelled is woken first, since the list goes over its stack. */
 static int wait_for(struct waiting *mine, uint64_t instant, int ends_by_signal)
 {
     int cancels, saved = errno, result, why;
@@ -227,6 +229,7 @@ static int try_semaphore(void *of) { return !sem_trywait(of) ? 0 : errno == EAGA
 static int take_semaphore(sem_t *of, uint64_t instant)
 {
     int saved = errno, result = take(of, try_semaphore, instant, 1);
+    pthread_testcancel();
     errno = result ? result : saved;
     return result ? -1 : 0;
 }
@@ -268,6 +271,7 @@ static int await(pthread_cond_t *of, pthread_mutex_t *mutex, uint64_t instant)
     }
     result = wait_for(&mine, instant, 0);
     int locked = pthread_mutex_lock(mutex);
+    pthread_testcancel();
     return locked ? locked : instant == FOR_EVER ? 0 : result;
 }
 int pthread_cond_wait(pthread_cond_t *restrict of, pthread_mutex_t *restrict mutex)
@@ -453,6 +457,15 @@ int pthread_create(pthread_t *restrict thread, const pthread_attr_t *restrict at
     return result;
 }
 
+int pthread_cancel(pthread_t thread)
+{
+    BELOW(pthread_cancel);
+    int result = below(thread);
+    if (!result && has_threads())
+        wake_those(0, thread, 1);
+    return result;
+}
+
 /* Waits for the end of a thread, until an instant. */
 static int await_end(pthread_t thread, uint64_t instant)
 {
@@ -462,6 +475,7 @@ static int await_end(pthread_t thread, uint64_t instant)
         enlist(&mine, (const void *)thread);
         result = is_over(thread) ? delist(&mine), 0 : wait_for(&mine, instant, 0);
         result = instant == FOR_EVER ? 0 : result;
+        pthread_testcancel();
     }
     return result;
 }
