@@ -203,7 +203,8 @@ def test_threads(tests, program):
     tests.expect("two runs of threads are one", all(first.text(name) == second.text(name) for name in KEPT) and first.out == second.out, second.out + second.err)
     tests.expect("the script of threads gives the trace", first.is_replayed(program))
     for what, ran in (("by the clock on the wall", by_wall), ("of a program without a device", outside)):
-        tests.expect("threads " + what, ran.status == 0 and re.sub(r" \d+", "", ran.out).split() == list(THREADS), ran.out + ran.err)
+        # On a loaded machine one thread may come too late for another; each way ends all the same.
+        tests.expect("threads " + what, ran.status == 0 and re.findall(r"(?m)^([a-z-]+) \d+$", ran.out) == list(THREADS), ran.out + ran.err)
     for ran in (first, second, by_wall, outside):
         ran.forget()
 

@@ -228,6 +228,7 @@ int pthread_rwlock_unlock(pthread_rwlock_t *of)
 static int try_semaphore(void *of) { return !sem_trywait(of) ? 0 : errno == EAGAIN ? EBUSY : errno; }
 static int take_semaphore(sem_t *of, uint64_t instant)
 {
+    pthread_testcancel();
     int saved = errno, result = take(of, try_semaphore, instant, 1);
     pthread_testcancel();
     errno = result ? result : saved;
@@ -263,6 +264,7 @@ int sem_post(sem_t *of)
 static int await(pthread_cond_t *of, pthread_mutex_t *mutex, uint64_t instant)
 {
     struct waiting mine;
+    pthread_testcancel();
     enlist(&mine, of);
     int result = pthread_mutex_unlock(mutex);
     if (result) {
@@ -470,6 +472,7 @@ int pthread_cancel(pthread_t thread)
 static int await_end(pthread_t thread, uint64_t instant)
 {
     int result = 0;
+    pthread_testcancel();
     while (has_threads() && !result && !is_over(thread)) {
         struct waiting mine;
         enlist(&mine, (const void *)thread);
