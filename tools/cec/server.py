@@ -176,6 +176,7 @@ class Server:
                 self.wait(link, given, thread, descriptors)
 
     def hung_up(self, link):
+        self.openings = [opening for opening in self.openings if opening[1] is not link]
         for wait in [wait for wait in self.waits.values() if wait.link is link]:
             wait.forget()
         for number, handle in list(self.handles.items()):
@@ -226,17 +227,22 @@ class Server:
             self.answers.append((thread, link, packet, rights))
 
     def send(self, thread, link, packet, rights):
+        if self.tell(link, packet, rights):
+            self.works(thread)
+
+    def tell(self, link, packet, rights=()):
+        """Sends a packet. Returns whether the program is still there."""
         try:
             link.sendmsg([packet], rights)
         except OSError:
-            return
-        self.works(thread)
+            return False
+        return True
 
     def open(self, link, number, thread, is_beside):
         """A program opens a device. Where it has several threads, the others first come to where they wait."""
         process = self.processes.get(thread.process)
         if number >= len(self.adapters):
-            link.send(ANSWER.pack(-ENODEV, 0, 0))
+            self.tell(link, ANSWER.pack(-ENODEV, 0, 0))
         elif process and not process.is_seated:
             self.openings.append((time.monotonic() + SETTLING, link, number, thread))
         else:
@@ -322,7 +328,7 @@ class Server:
             self.watch_end(thread.process)
         process.threads.add(thread.number)
         process.resting.add(thread.number)
-        link.send(DONE)
+        self.tell(link, DONE)
         self.answer(thread, link, DONE)
 
     def end(self, link, thread):
@@ -331,7 +337,7 @@ class Server:
         if thread.process in self.processes:
             self.processes[thread.process].threads.discard(thread.number)
             self.forget_if_over(thread.process)
-        link.send(DONE)
+        self.tell(link, DONE)
 
     def wake(self, link, number, serial):
         """A thread's wait of this number is over, or will be once it begins."""
@@ -340,7 +346,7 @@ class Server:
             self.woken[number] = serial
         elif wait.serial == serial:
             wait.end(1)
-        link.send(DONE)
+        self.tell(link, DONE)
 
     def watch_end(self, pid):
         def over():

@@ -149,13 +149,21 @@ static struct timespec by_wall(const struct timespec *at)
     return (struct timespec){ now.tv_sec + nanos / 1000000000, nanos % 1000000000 };
 }
 
-/* Mutexes. One that is its own thread's is left to the C library. */
+/* What two processes share is left to the C library: another process tells nobody here. These are the fields of glibc. */
+enum { SHARED_MUTEX = 128, SHARED_CONDITION = 1, PLACE_IN_SEMAPHORE = 2 };
+static int is_shared_condition(const pthread_cond_t *of) { return of->__data.__wrefs & SHARED_CONDITION; }
+static int is_shared_semaphore(const sem_t *of) { return ((const int *)of)[PLACE_IN_SEMAPHORE]; }
+
+/* Mutexes. One that is its own thread's is left to the C library, too. */
 static int try_mutex(void *of) { return pthread_mutex_trylock(of); }
-static int is_mine(const pthread_mutex_t *of) { return of->__data.__owner == (int)question_of(WAIT, 0, 0).thread; }
+static int is_left(const pthread_mutex_t *of)
+{
+    return of->__data.__kind & SHARED_MUTEX || of->__data.__owner == (int)question_of(WAIT, 0, 0).thread;
+}
 static int take_mutex(pthread_mutex_t *of, uint64_t instant)
 {
     int result = pthread_mutex_trylock(of);
-    return result != EBUSY || is_mine(of) ? result : take(of, try_mutex, instant, 0);
+    return result != EBUSY || is_left(of) ? result : take(of, try_mutex, instant, 0);
 }
 int pthread_mutex_lock(pthread_mutex_t *of)
 {
@@ -193,21 +201,21 @@ static int try_writing(void *of) { return pthread_rwlock_trywrlock(of); }
     int name(pthread_rwlock_t *of)                         \
     {                                                      \
         BELOW(name);                                       \
-        return has_threads() ? take(of, tries, FOR_EVER, 0) : below(of); \
+        return has_threads() && !of->__data.__shared ? take(of, tries, FOR_EVER, 0) : below(of); \
     }
 #define TAKES_RWLOCK_UNTIL(name, tries)                    \
     int name(pthread_rwlock_t *restrict of, const struct timespec *restrict at) \
     {                                                      \
         BELOW(name);                                       \
         struct timespec limit = by_wall(at);               \
-        return has_threads() ? take(of, tries, instant_of(at), 0) : below(of, &limit); \
+        return has_threads() && !of->__data.__shared ? take(of, tries, instant_of(at), 0) : below(of, &limit); \
     }
 #define TAKES_RWLOCK_BY_CLOCK(name, tries)                 \
     int name(pthread_rwlock_t *restrict of, clockid_t which, const struct timespec *restrict at) \
     {                                                      \
         BELOW(name);                                       \
         struct timespec limit = by_wall(at);               \
-        return has_threads() ? take(of, tries, instant_of(at), 0) : below(of, which, &limit); \
+        return has_threads() && !of->__data.__shared ? take(of, tries, instant_of(at), 0) : below(of, which, &limit); \
     }
 TAKES_RWLOCK(pthread_rwlock_rdlock, try_reading)
 TAKES_RWLOCK(pthread_rwlock_wrlock, try_writing)
@@ -237,19 +245,19 @@ static int take_semaphore(sem_t *of, uint64_t instant)
 int sem_wait(sem_t *of)
 {
     BELOW(sem_wait);
-    return has_threads() ? take_semaphore(of, FOR_EVER) : below(of);
+    return has_threads() && !is_shared_semaphore(of) ? take_semaphore(of, FOR_EVER) : below(of);
 }
 int sem_timedwait(sem_t *restrict of, const struct timespec *restrict at)
 {
     BELOW(sem_timedwait);
     struct timespec limit = by_wall(at);
-    return waits_in_room() ? take_semaphore(of, instant_of(at)) : below(of, &limit);
+    return waits_in_room() && !is_shared_semaphore(of) ? take_semaphore(of, instant_of(at)) : below(of, &limit);
 }
 int sem_clockwait(sem_t *restrict of, clockid_t which, const struct timespec *restrict at)
 {
     BELOW(sem_clockwait);
     struct timespec limit = by_wall(at);
-    return waits_in_room() ? take_semaphore(of, instant_of(at)) : below(of, which, &limit);
+    return waits_in_room() && !is_shared_semaphore(of) ? take_semaphore(of, instant_of(at)) : below(of, which, &limit);
 }
 int sem_post(sem_t *of)
 {
@@ -279,19 +287,19 @@ static int await(pthread_cond_t *of, pthread_mutex_t *mutex, uint64_t instant)
 int pthread_cond_wait(pthread_cond_t *restrict of, pthread_mutex_t *restrict mutex)
 {
     BELOW(pthread_cond_wait);
-    return has_threads() ? await(of, mutex, FOR_EVER) : below(of, mutex);
+    return has_threads() && !is_shared_condition(of) ? await(of, mutex, FOR_EVER) : below(of, mutex);
 }
 int pthread_cond_timedwait(pthread_cond_t *restrict of, pthread_mutex_t *restrict mutex, const struct timespec *restrict at)
 {
     BELOW(pthread_cond_timedwait);
     struct timespec limit = by_wall(at);
-    return waits_in_room() ? await(of, mutex, instant_of(at)) : below(of, mutex, &limit);
+    return waits_in_room() && !is_shared_condition(of) ? await(of, mutex, instant_of(at)) : below(of, mutex, &limit);
 }
 int pthread_cond_clockwait(pthread_cond_t *restrict of, pthread_mutex_t *restrict mutex, clockid_t which, const struct timespec *restrict at)
 {
     BELOW(pthread_cond_clockwait);
     struct timespec limit = by_wall(at);
-    return waits_in_room() ? await(of, mutex, instant_of(at)) : below(of, mutex, which, &limit);
+    return waits_in_room() && !is_shared_condition(of) ? await(of, mutex, instant_of(at)) : below(of, mutex, which, &limit);
 }
 int pthread_cond_signal(pthread_cond_t *of)
 {
@@ -327,9 +335,17 @@ long syscall(long number, ...)
         errno = why ? why : errno;
         return why && (limit || why != ETIMEDOUT) ? -1 : 0;
     }
-    int woken = command == FUTEX_WAKE || command == FUTEX_WAKE_BITSET ? wake((const void *)given[0], given[2]) : 0;
     long result = below(number, given[0], given[1], given[2], given[3], given[4], given[5]);
-    return result < 0 ? woken ? woken : result : result + woken;
+    if (result < 0 || command < 0)
+        return result;
+    if (command == FUTEX_WAKE || command == FUTEX_WAKE_BITSET)
+        result += wake((const void *)given[0], given[2]);
+    if (command == FUTEX_WAKE_OP)
+        result += wake((const void *)given[0], given[2]) + wake((const void *)given[4], given[3]);
+    /* Who would wait for the other word looks for himself. */
+    if (command == FUTEX_REQUEUE || command == FUTEX_CMP_REQUEUE)
+        result += wake((const void *)given[0], INT_MAX);
+    return result;
 }
 
 /* Threads: which there are, and which of them are over. */
