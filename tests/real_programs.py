@@ -186,7 +186,7 @@ def test_waits(tests, program):
 # The lock is held for 60; three threads read at once for 10 what is written for 65; the thread that is joined sleeps for 80.
 THREADS = {
     "early": 90, "sleep": 300, "timedwait": 150, "clockwait": 160, "signal": 70, "broadcast": 40, "in-time": 35, "lock": 60, "rwlock": 65 + 10, "semaphore": 50, "join": 80,
-    "cancel": 75, "futex": 45, "yield": 5, "read": 55, "poll": 33, "select": 36, "epoll": 42, "receive": 500,
+    "cancel": 75, "futex": 45, "yield": 5, "read": 55, "poll": 33, "select": 36, "epoll": 42, "receive": 500, "c": 85,
 }
 
 

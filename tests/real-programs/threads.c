@@ -1,5 +1,6 @@
 /* Threads that wait in each way that the room's time knows (docs/real-programs.md). Each line is a way, and how long it took, in milliseconds. A word `outside`
- * after the name: the device is not opened, so that the waits are by the clock on the wall. */
+ * after the name: the device is not opened, so that the waits are by the clock on the wall, where one thread may come too late for another: that is said by
+ * a line with `!`, and each way ends all the same. */
 #define _GNU_SOURCE
 #include <errno.h>
 #include <fcntl.h>
@@ -18,6 +19,7 @@
 #include <sys/ioctl.h>
 #include <sys/select.h>
 #include <sys/syscall.h>
+#include <threads.h>
 #include <time.h>
 #include <unistd.h>
 
@@ -183,8 +185,10 @@ static void takes_lock(void)
 {
     usleep(10000);
     struct timespec limit = in(CLOCK_REALTIME, 30);
-    expect(pthread_mutex_timedlock(&lock, &limit) == ETIMEDOUT, "timedlock");
-    pthread_mutex_lock(&lock);
+    int result = pthread_mutex_timedlock(&lock, &limit);
+    expect(result == ETIMEDOUT, "timedlock");
+    if (result)
+        pthread_mutex_lock(&lock);
     pthread_mutex_unlock(&lock);
 }
 static void locked(void) { while_another(0, holds_lock, takes_lock); }
@@ -204,13 +208,48 @@ static void reads(void)
 static void all_read(void) { at_once(reads, reads, reads); }
 static void read_and_written(void) { while_another(0, writes, all_read); }
 
+/* C's own threads. */
+static mtx_t mutex_in_c;
+static cnd_t condition_in_c;
+static int sets_in_c(void *given)
+{
+    struct timespec limit = of(85);
+    thrd_sleep(&limit, 0);
+    mtx_lock(&mutex_in_c);
+    is_set = 1;
+    cnd_signal(&condition_in_c);
+    mtx_unlock(&mutex_in_c);
+    return given == &is_set ? 7 : 0;
+}
+static void threads_in_c(void)
+{
+    thrd_t thread;
+    int value = 0;
+    struct timespec limit;
+    is_set = 0;
+    mtx_init(&mutex_in_c, mtx_timed);
+    cnd_init(&condition_in_c);
+    thrd_create(&thread, sets_in_c, &is_set);
+    mtx_lock(&mutex_in_c);
+    timespec_get(&limit, TIME_UTC);
+    limit.tv_sec += limit.tv_nsec >= 970000000;
+    limit.tv_nsec = (limit.tv_nsec + 30000000) % 1000000000;
+    expect(cnd_timedwait(&condition_in_c, &mutex_in_c, &limit) == thrd_timedout, "cnd_timedwait");
+    while (!is_set)
+        cnd_wait(&condition_in_c, &mutex_in_c);
+    mtx_unlock(&mutex_in_c);
+    expect(thrd_join(thread, &value) == thrd_success && value == 7, "thrd_join");
+}
+
 /* Semaphores, ends, futexes. */
 static void posts(void) { sem_post(&semaphore); }
 static void until_posted(void)
 {
     struct timespec limit = in(CLOCK_REALTIME, 20);
-    expect(sem_timedwait(&semaphore, &limit) && errno == ETIMEDOUT, "sem_timedwait");
-    sem_wait(&semaphore);
+    int is_late = sem_timedwait(&semaphore, &limit) && errno == ETIMEDOUT;
+    expect(is_late, "sem_timedwait");
+    if (is_late)
+        sem_wait(&semaphore);
 }
 static void posted(void) { while_another(50, posts, until_posted); }
 static void *ends(void *given)
@@ -224,9 +263,9 @@ static void ended(void)
     void *value = 0;
     struct timespec limit = in(CLOCK_REALTIME, 30);
     pthread_create(&thread, 0, ends, &word);
-    expect(pthread_tryjoin_np(thread, &value) == EBUSY, "tryjoin");
-    expect(pthread_timedjoin_np(thread, &value, &limit) == ETIMEDOUT, "timedjoin");
-    expect(!pthread_join(thread, &value) && value == &word, "join");
+    int result = pthread_timedjoin_np(thread, &value, &limit);
+    expect(result == ETIMEDOUT, "timedjoin");
+    expect((!result || !pthread_join(thread, &value)) && value == &word, "join");
 }
 /* A thread that waits for what nobody gives is cancelled. */
 static pthread_t cancelled;
@@ -369,7 +408,7 @@ static const struct {
     { "signal", signalled },        { "broadcast", broadcast }, { "in-time", signalled_in_time }, { "lock", locked },
     { "rwlock", read_and_written }, { "semaphore", posted },    { "join", ended },          { "cancel", cancel },
     { "futex", futex },             { "yield", yielded },       { "read", read_from_pipe }, { "poll", polled },
-    { "select", selected },         { "epoll", counted },       { "receive", sent },
+    { "select", selected },         { "epoll", counted },       { "receive", sent },        { "c", threads_in_c },
 };
 
 int main(int count, char **words)

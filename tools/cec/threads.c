@@ -8,11 +8,13 @@
 #include <limits.h>
 #include <linux/futex.h>
 #include <pthread.h>
+#include <sched.h>
 #include <semaphore.h>
 #include <stdarg.h>
 #include <stdlib.h>
 #include <string.h>
 #include <sys/syscall.h>
+#include <threads.h>
 #include <time.h>
 #include <unistd.h>
 
@@ -535,3 +537,54 @@ int pthread_clockjoin_np(pthread_t thread, void **value, clockid_t which, const 
     int result = await_end(thread, instant_of(at));
     return result ? result : joined(thread, value);
 }
+
+/* C's own threads, conditions and locks are those above by other names. */
+struct start_in_c {
+    thrd_start_t run;
+    void *with;
+};
+static void *begin_in_c(void *given)
+{
+    struct start_in_c start = *(struct start_in_c *)given;
+    free(given);
+    return (void *)(intptr_t)start.run(start.with);
+}
+static int in_c(int result)
+{
+    return !result ? thrd_success : result == ETIMEDOUT ? thrd_timedout : result == EBUSY ? thrd_busy : result == ENOMEM ? thrd_nomem : thrd_error;
+}
+int thrd_create(thrd_t *thread, thrd_start_t run, void *with)
+{
+    struct start_in_c *start = malloc(sizeof *start);
+    if (!start)
+        return thrd_nomem;
+    *start = (struct start_in_c){ run, with };
+    int result = pthread_create(thread, 0, begin_in_c, start);
+    if (result)
+        free(start);
+    return in_c(result == EAGAIN ? ENOMEM : result);
+}
+int thrd_join(thrd_t thread, int *value)
+{
+    void *is = 0;
+    int result = pthread_join(thread, &is);
+    if (!result && value)
+        *value = (intptr_t)is;
+    return in_c(result);
+}
+int thrd_sleep(const struct timespec *of, struct timespec *left)
+{
+    int result = clock_nanosleep(CLOCK_REALTIME, 0, of, left);
+    return result == EINTR ? -1 : result ? -2 : 0;
+}
+void thrd_yield(void) { sched_yield(); }
+int mtx_lock(mtx_t *of) { return in_c(pthread_mutex_lock((pthread_mutex_t *)of)); }
+int mtx_timedlock(mtx_t *restrict of, const struct timespec *restrict at) { return in_c(pthread_mutex_timedlock((pthread_mutex_t *)of, at)); }
+int mtx_unlock(mtx_t *of) { return in_c(pthread_mutex_unlock((pthread_mutex_t *)of)); }
+int cnd_wait(cnd_t *of, mtx_t *mutex) { return in_c(pthread_cond_wait((pthread_cond_t *)of, (pthread_mutex_t *)mutex)); }
+int cnd_timedwait(cnd_t *restrict of, mtx_t *restrict mutex, const struct timespec *restrict at)
+{
+    return in_c(pthread_cond_timedwait((pthread_cond_t *)of, (pthread_mutex_t *)mutex, at));
+}
+int cnd_signal(cnd_t *of) { return in_c(pthread_cond_signal((pthread_cond_t *)of)); }
+int cnd_broadcast(cnd_t *of) { return in_c(pthread_cond_broadcast((pthread_cond_t *)of)); }

@@ -138,6 +138,10 @@ time_t time(time_t *to)
         *to = now.tv_sec;
     return now.tv_sec;
 }
+int timespec_get(struct timespec *to, int base)
+{
+    return base == TIME_UTC && !clock_gettime(CLOCK_REALTIME, to) ? base : 0;
+}
 int usleep(useconds_t micros)
 {
     BELOW(usleep);
