@@ -5,6 +5,7 @@ cec-ctl, cec-compliance and cec-follower of Debian's v4l-utils and cec-client of
 installed, what needs them is left out, and said so."""
 
 import concurrent.futures
+import glob
 import os
 import re
 import shutil
@@ -22,6 +23,8 @@ ADAPTER_TESTS, TWO_SEATS_TESTS = 11, 85
 PATIENCE = 300
 # The tries of what goes by the wall clock.
 TRIES = 3
+# What is kept of a session.
+KEPT = ("session.net", "session.trace", "session.talk")
 
 
 class Tests:
@@ -41,12 +44,12 @@ class Tests:
 class Ran:
     """cec-device over a room, as it has ended."""
 
-    def __init__(self, program, room, seats, command, *flags):
+    def __init__(self, program, room, seats, command, *flags, **environment):
         self.kept = tempfile.mkdtemp(prefix="real-programs.")
         words = [DEVICE, os.path.join(ROOMS, room + ".net"), "--program", program, "--keep", self.kept, *flags]
         for seat in seats:
             words += ["--as", seat]
-        ran = subprocess.run([*words, "--", *command], capture_output=True, text=True, timeout=PATIENCE)
+        ran = subprocess.run([*words, "--", *command], capture_output=True, text=True, timeout=PATIENCE, env=dict(os.environ, **environment))
         self.status, self.out, self.err = ran.returncode, ran.stdout, ran.stderr
 
     def text(self, name):
@@ -179,6 +182,62 @@ def test_waits(tests, program):
     ran.forget()
 
 
+# How long each way to wait of tests/real-programs/threads.c takes, in milliseconds of the room: the longest of three sleeps, the limit, or when another thread acts.
+# The lock is held for 60; three threads read at once for 10 what is written for 65; the thread that is joined sleeps for 80.
+THREADS = {
+    "early": 90, "sleep": 300, "timedwait": 150, "clockwait": 160, "signal": 70, "broadcast": 40, "in-time": 35, "lock": 60, "rwlock": 65 + 10, "semaphore": 50, "join": 80,
+    "cancel": 75, "futex": 45, "yield": 5, "read": 55, "poll": 33, "select": 36, "epoll": 42, "receive": 500, "c": 85,
+}
+
+
+def test_threads(tests, program):
+    """A program of several threads in the room's time, twice with one trace; by the clock on the wall; and one that opens no device, for which the room stands."""
+    with tempfile.TemporaryDirectory() as folder:
+        built = os.path.join(folder, "threads")
+        subprocess.run(["cc", "-O2", "-Wall", "-Wextra", "-Werror", "-pthread", "-o", built, os.path.join(ROOMS, "threads.c")], check=True)
+        command = ["bash", "-c", "cec-ctl --playback >/dev/null; exec " + built]
+        first, second = (Ran(program, "play", ["dut"], command) for _ in range(2))
+        by_wall = Ran(program, "play", ["dut"], command, "--clock", "wall")
+        outside = Ran(program, "play", ["dut"], [built, "outside"])
+    tests.expect("threads wait in the room's time", first.out == "".join("%s %d\n" % way for way in THREADS.items()), first.out + first.err)
+    tests.expect("two runs of threads are one", all(first.text(name) == second.text(name) for name in KEPT) and first.out == second.out, second.out + second.err)
+    tests.expect("the script of threads gives the trace", first.is_replayed(program))
+    for what, ran in (("by the clock on the wall", by_wall), ("of a program without a device", outside)):
+        # On a loaded machine one thread may come too late for another; each way ends all the same.
+        tests.expect("threads " + what, ran.status == 0 and re.findall(r"(?m)^([a-z-]+) \d+$", ran.out) == list(THREADS), ran.out + ran.err)
+    for ran in (first, second, by_wall, outside):
+        ran.forget()
+
+
+# cec-client beside: a key of the television's remote control, a scan, and one more after it is plugged in elsewhere. Its lines come from a pipe.
+LIBCEC = """mkfifo "$0/lines"; exec 3<>"$0/lines"
+"$1" beside cec-client -t p -d 31 Linux <&3
+"$1" wait 8000000; "$1" press tv remote 8 play; "$1" wait 200000; "$1" release tv remote 8 play; "$1" wait 1000000
+echo scan >&3; "$1" wait 9000000
+"$1" unplug dut; "$1" plug dut amp 2; "$1" wait 3000000
+echo scan >&3; "$1" wait 3000000
+echo q >&3; "$1" wait 3000000
+"""
+
+
+def test_libcec_in_room_time(tests, program):
+    """cec-client over /dev/cec0 in the room's time, twice: it says the same, and has one trace."""
+    ran = []
+    for _ in range(2):
+        with tempfile.TemporaryDirectory() as folder:
+            ran.append(Ran(program, "edid", ["dut"], ["bash", "-c", LIBCEC, folder, INSIDE]))
+    first, second = ran
+    room = ("osd string:    TV", "osd string:    amp", "osd string:    rec", "osd string:    p1", "address:       1.1.0.0")
+    before, _, after = first.out.partition("physical address changed from 3000 to 1200")
+    missing = [words for words in (*room, ">> 08:44:44", "address:       3.0.0.0") if words not in before]
+    missing += [words for words in (*room, "address:       1.2.0.0") if words not in after]
+    tests.expect("cec-client in the room's time", not missing and first.status == 0, "missing: %s\n%s%s" % (missing, first.out, first.err))
+    tests.expect("two runs of cec-client are one", all(first.text(name) == second.text(name) for name in KEPT) and first.out == second.out, second.err)
+    tests.expect("the script of cec-client gives the trace", first.is_replayed(program))
+    first.forget()
+    second.forget()
+
+
 def test_descriptors(tests, program):
     """Two descriptors are one handle, which can be written to once the adapter has an address; a CDC message says where it comes from."""
     for clock in ("room", "wall"):
@@ -248,6 +307,14 @@ def test_events(tests, program):
     ran.forget()
 
 
+# One of two threads waits for a signal.
+SIGNALLED = """import os, signal, threading, time
+os.open("/dev/cec0", os.O_RDWR)
+threading.Thread(target=lambda: signal.sigwait([signal.SIGUSR1]), daemon=True).start()
+time.sleep(1)
+"""
+
+
 def test_bad_input(tests, program):
     """Each fault has its message and its status, and nothing is left."""
     rows = [
@@ -255,14 +322,17 @@ def test_bad_input(tests, program):
         ("a status", ["dut"], ["false"], [], 1, ""),
         ("a command that is killed", ["dut"], ["bash", "-c", "kill -9 $$"], [], 137, ""),
         ("a command that hangs", ["dut"], ["sleep", "100"], ["--clock", "wall", "--limit", "1"], 3, "has not ended in 1 seconds"),
+        ("a thread that waits for what the room does not see", ["dut"], ["python3", "-c", SIGNALLED], ["--stall", "1"], 3, "`--clock wall` takes what"),
         ("a program that never waits", ["dut"], ["python3", "-c", "import os; os.open('/dev/cec0', os.O_RDWR)\nwhile True: pass"], ["--stall", "1"], 3, "has not waited for 1 seconds"),
         ("no such command", ["dut"], ["no-such-command"], [], 3, "no-such-command: "),
         ("a program beside that ends", ["dut"], ["true"], ["--beside", "false"], 3, "false has ended, with status 1"),
     ]
-    for what, seats, command, flags, status, message in rows:
-        ran = Ran(program, "play", seats, command, *flags)
-        tests.expect(what, ran.status == status and message in ran.err and (message or not ran.err), "%d %s" % (ran.status, ran.err))
-        ran.forget()
+    with tempfile.TemporaryDirectory() as folder:
+        for what, seats, command, flags, status, message in rows:
+            ran = Ran(program, "play", seats, command, *flags, TMPDIR=folder)
+            tests.expect(what, ran.status == status and message in ran.err and (message or not ran.err), "%d %s" % (ran.status, ran.err))
+            ran.forget()
+        tests.expect("no folder is left", not os.listdir(folder), str(os.listdir(folder)))
     fight = "import fcntl, os, struct\nfirst, second = (os.open('/dev/cec0', os.O_RDWR) for _ in range(2))\n" \
             "fcntl.ioctl(first, 0x40046109, struct.pack('I', 2))\ntry: fcntl.ioctl(second, 0x40046109, struct.pack('I', 2))\nexcept OSError as error: print(error.errno)"
     ran = Ran(program, "play", ["dut"], ["python3", "-c", fight])
@@ -273,8 +343,6 @@ def test_bad_input(tests, program):
         room.flush()
         ran = subprocess.run([DEVICE, room.name, "--program", program, "--as", "tv", "--", "true"], capture_output=True, text=True, timeout=PATIENCE)
         tests.expect("a room that is refused", ran.returncode == 2 and "topology line 2: word" in ran.stderr, ran.stderr)
-    left = [name for name in os.listdir(tempfile.gettempdir()) if name.startswith("hdminet-cec.")]
-    tests.expect("no folder is left", not left, str(left))
 
 
 def test_libcec(tests, program):
@@ -308,7 +376,8 @@ def try_libcec(program):
     """What is not seen of what is wanted."""
     with tempfile.TemporaryDirectory() as folder:
         drm, shim = os.path.join(folder, "drm"), os.path.join(folder, "shim.so")
-        subprocess.run(["cc", "-O2", "-Wall", "-Wextra", "-Wno-unused-parameter", "-Werror", "-shared", "-fPIC", "-o", shim, os.path.join(TOP, "tools/cec/shim.c"), "-ldl"], check=True)
+        sources = glob.glob(os.path.join(TOP, "tools/cec/*.c"))
+        subprocess.run(["cc", "-O2", "-Wall", "-Wextra", "-Werror", "-shared", "-fPIC", "-pthread", "-o", shim, *sources, "-ldl"], check=True)
         adapter = subprocess.Popen([ADAPTER, os.path.join(ROOMS, "edid.net"), "--as", "dut", "--drm", drm, "--program", program], stdin=subprocess.PIPE,
                                    stdout=subprocess.PIPE, text=True)
         environment = dict(os.environ, LD_PRELOAD=shim, HDMINET_CEC_DRM=drm)
@@ -380,9 +449,10 @@ def main():
         return 0
     # The suite and libcec wait more than they work: they run beside the others.
     pool = concurrent.futures.ThreadPoolExecutor(6)
-    beside = [pool.submit(test_types, tests)]
+    beside = [pool.submit(test_types, tests), pool.submit(test_threads, tests, program)]
     if shutil.which("cec-client"):
         beside.append(pool.submit(test_libcec, tests, program))
+        beside.append(pool.submit(test_libcec_in_room_time, tests, program))
     else:
         print("real programs: cec-client of cec-utils is not installed, so libcec is not run")
     started = [(row, pool.submit(suite_of_follower, program, row[0], row[1])) for row in followers()] if shutil.which("cec-follower") else []

@@ -19,7 +19,7 @@ sys.path.insert(0, HERE)
 
 from programs import built_shim, end_group  # noqa: E402
 from room import Clock, Refused  # noqa: E402
-from server import SHARED_CLOCK, Server, named  # noqa: E402
+from server import SHARED_CLOCK, Server  # noqa: E402
 
 SEAT = "dut"
 # How cec-ctl makes /dev/cec0 a device of HDMI 1.4 of each kind.
@@ -138,10 +138,11 @@ class LinuxDevice:
                 key.data()
             self.hand_on()
             if time.monotonic() > until:
-                raise Refused("%s has not waited for %d seconds" % (", ".join(map(named, sorted(self.server.working))) or shlex.join(self.command), STALL))
+                raise Refused("%s has not waited for %d seconds" % (self.server.at_work() or shlex.join(self.command), STALL))
 
     def hand_on(self):
         self.server.time_out()
+        self.server.seat_who_wait()
         self.server.deliver()
         self.seat.settle()
 
@@ -151,9 +152,9 @@ class LinuxDevice:
         if not is_busy and self.waiting:
             self.run_next()
             return False
-        if self.server.working or self.server.answers or is_busy and self.at_work.pid not in self.server.processes:
+        if self.server.working or self.server.answers or is_busy and self.at_work.pid not in self.server.seated():
             return False
-        others = [pid for pid in self.server.processes if self.at_work is None or pid != self.at_work.pid]
+        others = [pid for pid in self.server.seated() if self.at_work is None or pid != self.at_work.pid]
         return self.main is None or self.main.poll() is not None or bool(others)
 
     def wake_up(self):

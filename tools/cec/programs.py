@@ -15,6 +15,8 @@ TOP = os.path.dirname(os.path.dirname(HERE))
 SETTLED = 1_500_000
 # How long a program that is asked to end may take, in seconds.
 GRACE = 2
+# The parts of the library that programs load first.
+SHIM = ("shim.c", "waits.c", "threads.c")
 
 
 def found_program():
@@ -31,13 +33,13 @@ def built_shim(folder):
     if os.path.exists(beside):
         return beside
     built = os.path.join(folder, "shim.so")
-    command = [os.environ.get("CC", "cc"), "-O2", "-Wall", "-Werror", "-shared", "-fPIC", "-o", built, os.path.join(HERE, "shim.c"), "-ldl"]
+    command = [os.environ.get("CC", "cc"), "-O2", "-Wall", "-Werror", "-shared", "-fPIC", "-pthread", "-o", built, *[os.path.join(HERE, name) for name in SHIM], "-ldl"]
     try:
         ran = subprocess.run(command, capture_output=True, text=True)
     except OSError as error:
         raise Refused("%s: %s; a compiler of C makes tools/cec/shim.so" % (command[0], error.strerror)) from None
     if ran.returncode != 0:
-        raise Refused("tools/cec/shim.c is not compiled: %s" % ran.stderr.strip())
+        raise Refused("tools/cec/shim.so is not compiled: %s" % ran.stderr.strip())
     return built
 
 
