@@ -46,6 +46,8 @@ OUTPUTS = [
     Output("capture.joined", "mon", "capture.*"),
     Output("capture.readings", "mon --from-start", "capture.*"),
 ]
+# How long one run may take, in seconds.
+LIMIT = 60
 # The captures that are no edge file.
 CAPTURES = (".vcd", ".pin", ".csv")
 # Inputs that are read by two, and files that are for readers.
@@ -97,7 +99,10 @@ def main():
     passed, failed, used = 0, [], set(OTHERS)
 
     def ran(program, words, data):
-        done = subprocess.run([program, *words], input=data, capture_output=True, cwd=EXAMPLES, timeout=60)
+        try:
+            done = subprocess.run([program, *words], input=data, capture_output=True, cwd=EXAMPLES, timeout=LIMIT)
+        except subprocess.TimeoutExpired:
+            return None, b"", "%d seconds" % LIMIT
         return done.returncode, done.stdout, done.stderr.decode(errors="replace")
 
     def comes_back(program, name):
