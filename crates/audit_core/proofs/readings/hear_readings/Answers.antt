@@ -1,5 +1,5 @@
 use Rattle.std.proofs.Common.{false}
-use Rattle.capture_monitor.specs.Joined.{captured_by}
+use Rattle.capture_monitor.specs.Watch.{captured_by}
 use Rattle.audit_core.proofs.JoinedLines.{none_joined}
 use Rattle.audit_core.proofs.Writing.{heard_as}
 use Rattle.audit_core.proofs.readings.hear_readings.Goals as goal

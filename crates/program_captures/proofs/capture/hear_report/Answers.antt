@@ -1,5 +1,5 @@
 use Rattle.std.proofs.Common.{◌≡◌, List, false, map, refl, subst, sym}
-use Rattle.capture_monitor.specs.Joined.{captured_by}
+use Rattle.capture_monitor.specs.Watch.{captured_by}
 use Rattle.cli_words.specs.declared.choice.CaptureReport.{CaptureReport}
 use Rattle.audit_notes.specs.Lines.{AuditLine}
 use Rattle.audit_notes.specs.Lines.AuditLine.{Reading}
