@@ -94,7 +94,7 @@ ending_word Long = codes "long"
 ending_word Open = codes "open"
 
 pub record IsEnding (e : Ending) (word : List ℕ) : Type 0 where
-  spelled : ending_text e ≡ 32 ∷ (word ++ 32 ∷ [])
+  pub spelled : ending_text e ≡ 32 ∷ (word ++ 32 ∷ [])
   plain : IsPlain word
   words : (text : List ℕ) → words_of (word ++ 32 ∷ text) ≡ word ∷ words_of text
   reported : (text : List ℕ) → (if bytes_eq word (codes "complete") then text else word ++ 32 ∷ text) ≡ ending_reported e ++ text
