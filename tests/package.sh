@@ -157,7 +157,14 @@ else
   echo "package: there is no pytest here"
 fi
 if command -v mypy > /dev/null; then
-  line "the types of the module" gives 0 env MYPYPATH="$top/python" mypy --strict --python-version 3.9 --cache-dir "$room/types" -p hdminet
+  # The plugin has the types of pytest, where the Python of mypy has it.
+  types=(-p hdminet)
+  if ! "$(sed -n '1s/^#! *//p' "$(command -v mypy)")" -c 'import pytest' 2> /dev/null; then
+    echo "package: mypy has no pytest: the types of the plugin are left out"
+    types=(-m hdminet)
+    for one in "$top"/python/hdminet/[!_p]*.py; do types+=(-m "hdminet.$(basename "$one" .py)"); done
+  fi
+  line "the types of the module" gives 0 env MYPYPATH="$top/python" mypy --strict --python-version 3.9 --cache-dir "$room/types" "${types[@]}"
 else
   echo "package: there is no mypy here"
 fi
