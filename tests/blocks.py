@@ -1,14 +1,13 @@
 #!/usr/bin/env python3
-"""tests/blocks.py [PROGRAM]: the names of data blocks in `edid --json`, each by hand from the tables of CTA-861-I (7.4, tag codes and
-extended tag codes), HDMI 1.4b (8.3.2), HDMI 2.1 (10.3) and Dolby's identifier. PROGRAM is crates/hdminet/out/hdminet, which ./hdminet
-builds, where none is given. The last line is 'blocks: N passed, M failed', and the status is 0 where M is 0."""
+"""tests/blocks.py [PROGRAM..]: the names of data blocks in `edid --json`, each by hand from the tables of CTA-861-I (7.4, tag codes and
+extended tag codes), HDMI 1.4b (8.3.2), HDMI 2.1 (10.3) and Dolby's identifier. PROGRAM is as for tests/examples.py. The last line is
+'blocks: N passed, M failed', and the status is 0 where M is 0."""
 import json
 import os
 import subprocess
 import sys
 
-TOP = os.path.dirname(os.path.dirname(os.path.realpath(__file__)))
-PROGRAM = os.path.realpath(sys.argv[1]) if len(sys.argv) > 1 else os.path.join(TOP, "crates/hdminet/out/hdminet")
+from built import TOP, programs, told
 
 # What a data block begins with, after the byte of its tag and length: an extended tag, or the number of who defined it, its last
 # byte first; and the block's name.
@@ -51,27 +50,30 @@ def summed(block):
     return block[:127] + bytes([-sum(block[:127]) % 256])
 
 
+def named(program, base, begin, tag):
+    """The names of a data block that begins so, where an HDMI block stands after it, and what is said."""
+    block = bytes.fromhex(begin)
+    blocks = bytes([tag << 5 | len(block)]) + block + bytes.fromhex("65030c001000")
+    extension = bytes([2, 3, 4 + len(blocks), 0x70]) + blocks
+    whole = base + summed(extension + bytes(128 - len(extension)))
+    ran = subprocess.run([program, "edid", "--json"], input=whole, capture_output=True, timeout=60)
+    objects = map(json.loads, ran.stdout.splitlines())
+    return [it["name"] for it in objects if it["type"] == "part" and it["byte"] == 4], ran.stderr.decode()
+
+
 def main():
     with open(os.path.join(TOP, "examples/living-room.edid"), "rb") as file:
         base = file.read()[:128]
     passed, failed = 0, []
-    hdmi = bytes.fromhex("65030c001000")
-    for tag, begin, name in TAGS:
-        block = bytes.fromhex(begin)
-        block = bytes([tag << 5 | len(block)]) + block
-        # Where the block is none of HDMI, one stands after it.
-        blocks = block + hdmi
-        extension = bytes([2, 3, 4 + len(blocks), 0x70]) + blocks
-        ran = subprocess.run([PROGRAM, "edid", "--json"], input=base + summed(extension + bytes(128 - len(extension))), capture_output=True, timeout=60)
-        parts = [it for it in map(json.loads, ran.stdout.splitlines()) if it["type"] == "part"]
-        names = [it["name"] for it in parts if it["byte"] == 4]
-        passed += names == [name]
-        if names != [name]:
-            failed.append("%d %s: %s, and it is %s %s" % (tag, begin, name, names, ran.stderr.decode()))
-    for it in failed:
-        print("blocks: fails: %s" % it)
-    print("blocks: %d passed, %d failed" % (passed, len(failed)))
-    return 1 if failed else 0
+    for program in programs():
+        for tag, begin, name in TAGS:
+            names, err = named(program, base, begin, tag)
+            passed += names == [name]
+            if names != [name]:
+                failed.append("%d %s: %s, and it is %s %s" % (tag, begin, name, names, err))
+    if not passed:
+        failed.append("there is no program: ./hdminet builds it")
+    return told("blocks", passed, failed)
 
 
 if __name__ == "__main__":

@@ -13,9 +13,9 @@ import os
 import subprocess
 import sys
 
-TOP = os.path.dirname(os.path.dirname(os.path.realpath(__file__)))
+from built import TOP, programs, told
+
 EXAMPLES = os.path.join(TOP, "examples")
-BUILT = [os.path.join(TOP, "crates/hdminet/out", name) for name in ("hdminet", "hdminet.by-rattle")]
 
 # An ending of outputs, the command that writes them, and the ending of its input. A name that begins with `capture` stands for every
 # capture of that ending.
@@ -95,7 +95,7 @@ def cases():
 
 
 def main():
-    programs = [os.path.realpath(it) for it in sys.argv[1:]] or [it for it in BUILT if os.path.exists(it)]
+    taken = programs()
     passed, failed, used = 0, [], set(OTHERS)
 
     def ran(program, words, data):
@@ -130,19 +130,16 @@ def main():
     for _, sources, output in every:
         used.update(sources + [output])
     with concurrent.futures.ThreadPoolExecutor(os.cpu_count()) as pool:
-        for faults in pool.map(tried, [(program, *case) for program in programs for case in every]):
+        for faults in pool.map(tried, [(program, *case) for program in taken for case in every]):
             passed += not faults
             failed += faults[:1]
     for path in glob.glob(os.path.join(EXAMPLES, "*")):
         name = os.path.basename(path)
         if os.path.isfile(path) and name not in used:
             failed.append("%s is neither an input nor an output" % name)
-    if not programs:
+    if not taken:
         failed.append("there is no program: ./hdminet builds it")
-    for it in failed:
-        print("examples: fails: %s" % it)
-    print("examples: %d passed, %d failed" % (passed, len(failed)))
-    return 1 if failed else 0
+    return told("examples", passed, failed)
 
 
 if __name__ == "__main__":

@@ -24,9 +24,9 @@ import re
 import subprocess
 import sys
 
-TOP = os.path.dirname(os.path.dirname(os.path.realpath(__file__)))
+from built import TOP, programs, told
+
 TABLES = os.path.join(TOP, "tests/explain")
-BUILT = [os.path.join(TOP, "crates/hdminet/out", name) for name in ("hdminet", "hdminet.by-rattle")]
 SIGNS = {"r": "\r", "t": "\t", "\\": "\\"}
 HELP = "For more information, try '--help'."
 RULES = "error: a value is none of its flag, or flags do not go together\n\n"
@@ -235,16 +235,13 @@ def tested(program):
 
 
 def main():
-    programs = [os.path.realpath(it) for it in sys.argv[1:]] or [it for it in BUILT if os.path.exists(it)]
-    with concurrent.futures.ThreadPoolExecutor(len(programs) or 1) as pool:
-        every = list(pool.map(tested, programs))
+    taken = programs()
+    with concurrent.futures.ThreadPoolExecutor(len(taken) or 1) as pool:
+        every = list(pool.map(tested, taken))
     failed = [it for tests in every for it in tests.failed]
-    if not programs:
+    if not taken:
         failed.append("there is no program: ./hdminet builds it")
-    for it in failed:
-        print("explain: fails: %s" % it)
-    print("explain: %d passed, %d failed" % (sum(it.passed for it in every), len(failed)))
-    return 1 if failed else 0
+    return told("explain", sum(it.passed for it in every), failed)
 
 
 if __name__ == "__main__":
