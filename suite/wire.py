@@ -17,6 +17,10 @@ LOW_DRIVE = range(3_360, 3_841)
 LEAST_ATTEMPTS, MOST_ATTEMPTS = 2, 6
 # An address that the peer may hold, and one that nobody holds.
 TELEVISION, PEER, NOBODY, BROADCAST = 0, 14, 12, 15
+# How long the line rests between two frames that are laid on it.
+BETWEEN = 50_000
+# By how much another frame begins before or after its own.
+SHIFTS = (-200, -20, 0, 20, 200)
 # How long before the device would answer another question comes: a sender that tries again waits for two periods less (CEC 9.1).
 BEFORE_ITS_ANSWER = 3_000
 GIVE_OSD_NAME, GIVE_POWER_STATUS, VENDOR_COMMAND = 0x46, 0x8F, 0x89
@@ -148,7 +152,10 @@ def audited(bench, pattern):
 
 
 def widths(bench):
-    return audited(bench, r"start low|start total|slot|low drive")
+    remarks = audited(bench, r"start low|start total|slot|low drive|free")
+    # A start bit that comes too soon ends the last bit of the frame before it, which is of the free time alone.
+    soon = {" total %s " % remark.split(" ")[1] for remark in remarks if remark.startswith("free")}
+    return [remark for remark in remarks if not remark.startswith("free") and not any(total in remark for total in soon)]
 
 
 def free_times(bench):
@@ -166,26 +173,29 @@ def attempts(bench):
 
 # Who has the line.
 
+def contended(bench, name, frame, words, most=None):
+    """A frame that begins about when the device's answer does: it is read, unless it gives way, and the answer comes once."""
+    wrong, begin = [], bench.answer.begin
+    for shift in SHIFTS:
+        lows, _ = laid(begin + shift, frame, most=most)
+        scene = bench.scene(SETTLED + 3 * ANSWERED, [ask(SETTLED, "give-osd-name")], lows)
+        count = len(scene.said("set-osd-name", begin - 1_000))
+        if not scene.said(words, begin - 1_000):
+            wrong.append("%s that begins %+d of its answer is not read" % (name, shift))
+        elif count != 1:
+            wrong.append("beside %s that begins %+d of it its answer comes %d times" % (name, shift, count))
+    return wrong
+
+
 def arbitration(bench):
-    """A frame of a smaller initiator begins with the device's answer: it goes through whole, and the answer comes after it."""
-    wrong = []
+    """A frame of another initiator begins with the device's answer: that of a smaller address goes through whole, and the answer comes after it; that
+    of a greater address gives way."""
     if bench.answer is None:
         return ["it does not answer for its name"]
-    begin = bench.answer.begin
-    for shift in (-200, -20, 0, 20, 200):
-        # The television asks all who is the source: nobody answers, and nobody acknowledges.
-        lows, _ = laid(begin + shift, bytes([TELEVISION << 4 | BROADCAST, 0x85]))
-        scene = bench.scene(SETTLED + 3 * ANSWERED, [ask(SETTLED, "give-osd-name")], lows)
-        if not scene.said("request-active-source", begin - 1_000):
-            wrong.append("a frame of address 0 that begins %+d of its own is not read" % shift)
-        elif len(scene.said("set-osd-name", begin)) != 1:
-            wrong.append("its answer comes %d times after a frame of address 0 that begins %+d of it" % (len(scene.said("set-osd-name", begin)), shift))
+    # The television asks all who is the source: nobody answers, and nobody acknowledges.
+    wrong = contended(bench, "a frame of address 0", bytes([TELEVISION << 4 | BROADCAST, 0x85]), "request-active-source")
     # An initiator of a greater address stops once it reads the device's 0 in the place of its own 1.
-    lows, _ = laid(begin, bytes([PEER << 4 | BROADCAST, 0x85]), most=first_difference(bench.address, PEER))
-    scene = bench.scene(SETTLED + 3 * ANSWERED, [ask(SETTLED, "give-osd-name")], lows)
-    if len(scene.said("set-osd-name", begin - 1_000)) != 1:
-        wrong.append("its answer does not go through beside a frame of address %x" % PEER)
-    return wrong
+    return wrong + contended(bench, "a frame of address %x" % PEER, bytes([PEER << 4 | BROADCAST, 0x85]), "", first_difference(bench.address, PEER))
 
 
 def first_difference(one, other):
@@ -194,7 +204,7 @@ def first_difference(one, other):
 
 
 def collision(bench):
-    """Somebody lays a 0 over a 1 of its second block: it stops there, and its answer comes again."""
+    """Somebody lays a 0 over a 1 of its second block, or sends a frame of its address that has one there: it stops there, and its answer comes again."""
     if bench.answer is None:
         return ["it does not answer for its name"]
     begin = bench.answer.begin
@@ -202,11 +212,13 @@ def collision(bench):
     fall = begin + START + (BITS_OF_A_BLOCK + 1) * BIT
     scene = bench.scene(SETTLED + 3 * ANSWERED, [ask(SETTLED, "give-osd-name")], [(fall, ZERO)])
     wrong = []
-    if scene.pulls_in(fall + BIT - 200, fall + 3 * BIT):
+    if scene.pulls_in(fall + BIT - 200, fall + BIT + 200):
         wrong.append("it goes on after a bit that it did not send")
     if not scene.said("set-osd-name", fall):
         wrong.append("its answer does not come again")
-    return wrong
+    # A frame of its own address that begins with its answer, and has the first 0 in the place of a 1: a refusal, whose opcode is 00.
+    frame = bytes([bench.address << 4 | TELEVISION, 0x00, 0x8C, 0x00])
+    return wrong + contended(bench, "another one's frame of its address", frame, "feature-abort 8c")
 
 
 # What it reads.
@@ -285,13 +297,21 @@ def blocks(bench):
 
 
 def others(bench):
-    """It leaves frames to others and to all alone."""
-    wrong = []
-    for destination in sorted({TELEVISION, 3, 12, PEER, BROADCAST} - {bench.address}):
-        for initiator in {TELEVISION, PEER} - {destination}:
-            lows, end = laid(SETTLED, bytes([initiator << 4 | destination, GIVE_OSD_NAME]))
-            if bench.scene(end + 10_000, (), lows).pulls_in(SETTLED, end):
-                wrong.append("it pulls in a frame %x>%x" % (initiator, destination))
+    """It leaves frames to others and to all alone, and those of its own."""
+    wrong, ways = [], [(initiator, destination) for destination in range(BROADCAST + 1) for initiator in (TELEVISION, PEER)
+                       if destination not in (initiator, TELEVISION, bench.address)]
+    # (the television answers what comes to it: that is the last)
+    lows, spans, at = [], [], SETTLED
+    for initiator, destination in [*ways, (PEER, TELEVISION)]:
+        more, end = laid(at, bytes([initiator << 4 | destination, GIVE_OSD_NAME]))
+        lows += more
+        spans.append((initiator, destination, at, end))
+        at = end + BETWEEN
+    scene = bench.scene(end + 10_000, (), lows)
+    wrong += ["it pulls in a frame %x>%x" % (initiator, destination) for initiator, destination, begin, end in spans if scene.pulls_in(begin, end)]
+    scene = bench.scene(SETTLED + 10 * ANSWERED, [ask(SETTLED, "give-osd-name", "peer", NOBODY)])
+    if [each for each in scene.rounds if each.way == "%x>%x" % (bench.address, NOBODY) and each.verdict == "ack"]:
+        wrong.append("it acknowledges a frame of its own")
     return wrong
 
 
@@ -326,9 +346,26 @@ TESTS = [
     WireTest("wire-refused-windows", "It does not read what is no bit", "CEC 5.2", "required", "Nothing is acknowledged after a start bit or a bit out of its window, and the next frame is read", refused_windows),
     WireTest("wire-low-drive", "A bit that comes too early is an error", "CEC 7.4", "required", "It holds the line low for 3,360 to 3,840 microseconds", low_drive),
     WireTest("wire-blocks", "It acknowledges each block to its address", "CEC 6.1.2", "required", "Each of up to sixteen blocks is acknowledged", blocks),
-    WireTest("wire-others", "It leaves frames to others alone", "CEC 6.1.2", "required", "It acknowledges no frame to another address or to all", others),
+    WireTest("wire-others", "It leaves frames to others alone", "CEC 6.1.2", "required", "It acknowledges no frame to another address or to all, and none of its own", others),
     WireTest("wire-stops", "A frame that stops is forgotten", "CEC 6.1", "required", "The next frame is answered", stops),
     WireTest("wire-held", "A line that is held low is not used", "CEC 9.1", "required", "Nothing is sent while the line is low; what waits goes out afterwards", held_line),
 ]
+
+
+def is_unread(bench):
+    scene = bench.settled()
+    return scene.run.last_held is None and bool(scene.pulls)
+
+
+def is_unasked(bench):
+    if bench.settled().run.last_held is None:
+        return False
+    scene = bench.scene(SETTLED + ANSWERED, [ask(SETTLED, "give-osd-name")])
+    asked = [each for each in scene.rounds if each.begin >= SETTLED and each.begins_with(TELEVISION, bench.address)]
+    return bool(asked) and not any(each.verdict == "ack" for each in asked)
+
+
+# Where other tests can't judge a device: the test that says why, if it fails, and the reason.
+GROUNDS = (("wire-widths", is_unread, "nobody reads its frames"), ("wire-blocks", is_unasked, "it acknowledges no question"))
 # The kinds that they are for: those that have an address, and are below a television.
 KINDS = ("player", "recorder", "tuner", "amp")

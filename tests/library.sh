@@ -323,13 +323,10 @@ frames_of_the_program() {
 
 # The tests of suite/ over examples/c/pin.c, whose interrupts come so late, by four programs at a time.
 over_pin() { local latency=$1; shift; "$top/tools/suite" --program "$program" --dut "$run $room/pin $latency" --kind player --without deck --without menu --without remote "$@"; }
-# Where interrupts come 300 late a slot is sampled 1,350 after its fall, too late for a 0 that is low for 1,300, and acknowledges are low
-# for 1,800.
-taken_by_latency() { if [ "$1" = 300 ]; then grep -vx -e 'wire-windows' -e 'wire-widths'; else cat; fi; }
 all_over_pin() {
   export -f over_pin
   export top program run room
-  "$top/tools/suite" --list | cut -f 1 | taken_by_latency "$1" | xargs -P 4 -n 30 bash -c 'over_pin "$@"' over_pin "$1"
+  "$top/tools/suite" --list | cut -f 1 | xargs -P 4 -n 30 bash -c 'over_pin "$@"' over_pin "$1"
 }
 # The reference device by its pin, over the Python module.
 python_pin() {
@@ -337,12 +334,10 @@ python_pin() {
     xargs -P 4 -n 30 "$top/tools/suite" --program "$program" --dut "$top/tests/suite/pinned.py 100" --kind "$1"
 }
 acknowledges() { over_pin "$1" "$top/tests/suite/two-players.test"; }
-# A 0 is low for 1,500, and looked at 1,050 after its fall: who looks more than 450 late reads a 1 in its place, and never has an
-# address.
-misreads() {
+# Who acknowledges a 1 that is low for 600 begins before it rises: later it is another bit, which comes too early.
+breaks_the_acknowledge() {
   ! over_pin "$1" "$top/tests/suite/two-players.test" poll-acknowledged > "$room/written" && [ "$(grep -c '^not ok' "$room/written")" = 2 ] &&
-    [ "$(grep -c '^# the device under test: it holds no logical address' "$room/written")" = 2 ] &&
-    [ "$(grep -c '^# [0-9 ]* silent 0 by - out -$' "$room/written")" -gt 100 ]
+    ! grep '^# the device under test' "$room/written" && [ "$(grep -c '^# [0-9 ]* short 000001001 by tv out -$' "$room/written")" -gt 10 ]
 }
 
 . "$top/tools/home.bash"
@@ -387,11 +382,11 @@ elif [ $# -ge 1 ]; then
     line "dut.c links" link dut -lhdminet_wire "$top/examples/c/dut.c"
     line "dut.c, a device under test" "$top/tools/suite" --program "$program" --dut "$run $room/dut" --kind player --without deck --without menu --without remote
     line "pin.c links" link pin -lhdminet_wire "$top/examples/c/pin.c"
-    for latency in 1 100 300; do
+    for latency in 1 20 100 150 300; do
       line "pin.c, whose interrupts are $latency late, a device under test" all_over_pin $latency
     done
-    for latency in 1 100 300 450; do line "pin.c, whose interrupts are $latency late, and a player" acknowledges $latency; done
-    for latency in 451 500; do line "pin.c, whose interrupts are $latency late, misreads" misreads $latency; done
+    for latency in 1 100 300 600; do line "pin.c, whose interrupts are $latency late, and a player" acknowledges $latency; done
+    for latency in 601 700; do line "pin.c, whose interrupts are $latency late, breaks the acknowledge" breaks_the_acknowledge $latency; done
     line "the random frames, read by the program" frames_of_the_program
     for net in "$top"/examples/*.net; do
       name=$(basename "$net")

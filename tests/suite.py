@@ -46,6 +46,8 @@ TESTS = [test for test in runner.tests_of(runner.TESTS, []) if isinstance(test, 
 WIRE_TESTS = runner.wire.TESTS
 # How late an interrupt of a right device's pin comes, in microseconds.
 LATENCIES = (1, 20, 100, 150, 300)
+# At which of them it goes through all tests of a player.
+WHOLE = [int(latency) for latency in os.environ.get("HDMINET_LATENCIES", "20 300").split()]
 
 
 class Here:
@@ -195,19 +197,24 @@ class Always:
 
 
 def of_the_wire(latency_and_fault):
-    """The tests of the wire that a device by pin fails, with what they say."""
+    """The tests that a player by pin fails, with what they say: those of the wire, and of one at latencies that are asked for all of its kind."""
     latency, fault = latency_and_fault
     kind = ByLevels if fault == "by levels" else BitBanged
-    fault = None if fault == "by levels" else fault
     suite = runner.Suite(PROGRAM, "player", 2, 60)
     suite.frames = FRAMES
-    devices = Always(kind(latency, FAULTS[fault][0] if fault else Timing()))
-    return {test.name: result.below for test in WIRE_TESTS if not (result := suite.wire_test(test, devices)).holds}
+    devices = Always(kind(latency, FAULTS[fault][0] if fault in FAULTS else Timing()))
+    tests = WIRE_TESTS + [test for test in TESTS if latency in WHOLE and fault is None and runner.skipped(test, "player", []) is None]
+    names, failed = {test.name for test in tests}, {}
+    for test in tests:
+        why, result = suite.tried(test, devices, names)
+        if why is None and not result.holds:
+            failed[test.name] = result.below
+    return failed
 
 
 def faults_of_the_wire_are_seen(pool):
     """Each fault of the wire fails the test that is named after it, and no other but those that stand beside it; a right device fails none."""
-    cases = [(20, fault) for fault in FAULTS] + [(latency, None) for latency in LATENCIES] + [(20, "by levels"), (150, "by levels")]
+    cases = [(latency, None) for latency in LATENCIES] + [(20, fault) for fault in FAULTS] + [(20, "by levels"), (150, "by levels")]
     right = True
     for (latency, fault), got in zip(cases, pool.map(of_the_wire, cases)):
         want = set(FAULTS[fault][1].split()) if fault in FAULTS else set()

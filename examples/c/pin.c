@@ -4,7 +4,10 @@
 
    In a device `heard` is what the interrupt of the pin calls, and the timer of the receiver; `transmit` what the timer of the
    sender calls; `pull` drives the pin, and `pin_is_low` is its level at the call. Here time, edges and calls are those of the
-   lines of docs/suite.md. */
+   lines of docs/suite.md.
+
+   An interrupt says what the pin was at its edge, and the receiver hears no more than that, its timer too: so it hears the whole line
+   so much later, and samples each bit where it should. Of its acknowledges, which it begins late, it takes that off. */
 #include "player.h"
 
 #include <inttypes.h>
@@ -23,8 +26,9 @@ static const uint64_t NEVER = UINT64_MAX;
 
 static uint64_t now, latency;
 static bool pin_is_low;
-static uint64_t interrupts[MOST_EDGES]; /* when those come of edges that are not heard yet */
+static struct edge { uint64_t at; bool is_low; } interrupts[MOST_EDGES]; /* when those come of edges that are not heard yet */
 static size_t edges;
+static bool level_is_low;               /* the level after the last edge that was heard */
 static uint64_t wakes_at;               /* when the next `wake` comes */
 
 static hdminet_receiver receiver;
@@ -99,10 +103,10 @@ static bool is_to_acknowledge(void) {
 /* The interrupt of the pin, or the timer of the receiver. */
 static void heard(void) {
     hdminet_reading reading = {0};
-    if (pin_is_low != receiver.is_low) heard_at = now;
-    hdminet_heard told = hdminet_receiver_hear(&receiver, now, pin_is_low, &reading);
+    if (level_is_low != receiver.is_low) heard_at = now;
+    hdminet_heard told = hdminet_receiver_hear(&receiver, now, level_is_low, &reading);
     if (is_sending) hdminet_sender_heard(&sender, &told, now);
-    if (is_to_acknowledge()) pull(ZERO);
+    if (is_to_acknowledge()) pull(ZERO - latency);
     if (told.kind < 2) return;
     unsigned fate = is_sending ? hdminet_sender_fate(&sender, &reading).fate : LOST;
     if (is_sending) tried_to_send(fate);
@@ -112,13 +116,16 @@ static void heard(void) {
 
 static uint64_t hears_at(void) {
     hdminet_instant wake = hdminet_receiver_wakes_at(&receiver);
-    return least(edges ? interrupts[0] : NEVER, wake.code == HDMINET_DONE ? wake.at : NEVER);
+    return least(edges ? interrupts[0].at : NEVER, wake.code == HDMINET_DONE ? wake.at : NEVER);
 }
 
 /* Calls what is due. */
 static void call(void) {
     bool is_heard = hears_at() <= now;
-    while (edges && interrupts[0] <= now) memmove(interrupts, interrupts + 1, --edges * sizeof *interrupts);
+    while (edges && interrupts[0].at <= now) {
+        level_is_low = interrupts[0].is_low;
+        memmove(interrupts, interrupts + 1, --edges * sizeof *interrupts);
+    }
     if (is_heard) heard();
     if (least(begins_at(), pulls_at) <= now) transmit();
 }
@@ -134,7 +141,7 @@ static void ask_to_be_woken(void) {
 /* It has its power, or another place. */
 static void begin(const char *place) {
     receiver = hdminet_receiver_new();
-    pin_is_low = is_sending = false;
+    pin_is_low = level_is_low = is_sending = false;
     edges = frames = 0;
     held = NONE, heard_at = now, pulls_at = NEVER, bits_free = FREE_NEW;
     player_begin(place);
@@ -143,7 +150,7 @@ static void begin(const char *place) {
 int main(int count, char **words) {
     char line[128], verb[16], rest[40];
     latency = count == 2 ? strtoull(words[1], NULL, 10) : 0;
-    if (latency == 0) return fputs("usage: pin LATENCY\n", stderr), 2;
+    if (latency == 0 || latency >= ZERO) return fputs("usage: pin LATENCY\n", stderr), 2;
     while (fgets(line, sizeof line, stdin)) {
         *rest = 0;
         if (sscanf(line, "%15s %" SCNu64 " %39s", verb, &now, rest) < 2) return 2;
@@ -155,7 +162,7 @@ int main(int count, char **words) {
             begin(rest);
         } else if (!strcmp(verb, "line")) {
             pin_is_low = !strcmp(rest, "0");
-            if (edges < MOST_EDGES) interrupts[edges++] = now + latency;
+            if (edges < MOST_EDGES) interrupts[edges++] = (struct edge){now + latency, pin_is_low};
         } else if (!strcmp(verb, "wake")) {
             call();
         } else if (!strcmp(verb, "press")) {

@@ -1,18 +1,14 @@
 #!/usr/bin/env python3
-"""bitbanged.py LATENCY [FAULT]: a player that drives its pin bit by bit, with a receiver and a sender of its own, and perhaps one fault of the
-wire. An interrupt of its pin comes LATENCY microseconds after the edge. It answers for its name, version, place and power, and refuses
-the rest. `--list` writes the faults, each with the test of the wire that has to see it."""
+"""bitbanged.py LATENCY [FAULT]: the device of examples/suite/reference.py, which drives its pin bit by bit, with a receiver and a sender of its
+own, and perhaps one fault of the wire. An interrupt of its pin comes LATENCY microseconds after the edge. `--list` writes the faults, each
+with the tests that it fails."""
 
 import dataclasses
-import os
 import sys
 
-sys.path.insert(0, os.path.join(os.path.dirname(os.path.realpath(__file__)), "../../examples/suite"))
-from dut import Dut  # noqa: E402
+from by_pin import BROADCAST, NEVER, ByPin
+from reference import Reference
 
-NEVER = float("inf")
-BROADCAST = 15
-ADDRESSES = (4, 8, 11)
 BITS_OF_A_BLOCK, EOM_BIT, ACK_BIT = 10, 8, 9
 
 
@@ -32,9 +28,11 @@ class Timing:
     free_again: int = 3
     free_new: int = 5
     free_next: int = 7
-    # How far into a frame it looks whether another one pulls the line, in bits; which block it acknowledges.
+    # How far into a frame it looks whether another one pulls the line, in bits; which block it acknowledges first, and whether
+    # those of its own frames too.
     looks_for: float = NEVER
     first_block: int = 0
+    takes_its_own: bool = False
     # What is still taken of others (CEC 5.2, with a margin).
     start_lows: tuple = (3300, 4100)
     starts: tuple = (4100, 4900)
@@ -42,10 +40,6 @@ class Timing:
     longest_low: int = 2300
 
 
-# What a device fails that no other device can read, and what one that takes no header.
-UNREADABLE = ("wire-widths wire-attempts wire-arbitration wire-collision wire-windows wire-refused-windows wire-low-drive wire-blocks "
-              "wire-others wire-stops wire-held")
-UNASKED = "wire-blocks wire-attempts wire-arbitration wire-collision wire-windows wire-refused-windows wire-stops wire-held"
 # Each fault, and the tests that it fails: first the one that is named after it.
 FAULTS = {
     "samples-early": (Timing(sample=700), "wire-windows"),
@@ -55,19 +49,19 @@ FAULTS = {
     "no-repetition": (Timing(attempts=1), "wire-attempts"),
     "six-repetitions": (Timing(attempts=7), "wire-attempts"),
     "twenty-repetitions": (Timing(attempts=21), "wire-attempts"),
-    # Its next start bit begins within the last bit of the frame before.
-    "free-for-one": (Timing(free_again=1, free_new=1, free_next=1), "wire-free-times wire-widths wire-collision"),
+    "free-for-one": (Timing(free_again=1, free_new=1, free_next=1), "wire-free-times"),
     "free-for-three": (Timing(free_new=3, free_next=3), "wire-free-times"),
     "free-for-five": (Timing(free_again=5, free_next=5), "wire-free-times"),
     "new-and-present-exchanged": (Timing(free_new=7, free_next=5), "wire-free-times"),
-    "short-start": (Timing(start_low=3300, start=4100), UNREADABLE),
-    "short-periods": (Timing(bit=2000), UNREADABLE),
-    "long-periods": (Timing(bit=2800), UNREADABLE),
+    "short-start": (Timing(start_low=3300, start=4100), "wire-widths"),
+    "short-periods": (Timing(bit=2000), "wire-widths"),
+    "long-periods": (Timing(bit=2800), "wire-widths"),
     "long-one": (Timing(one=900), "wire-widths"),
     "long-zero": (Timing(zero=1850), "wire-widths"),
     "short-zero": (Timing(zero=1200), "wire-widths"),
     "long-acknowledge": (Timing(acknowledge=2000), "wire-widths"),
-    "acknowledges-the-next-block": (Timing(first_block=1), UNASKED),
+    "acknowledges-the-next-block": (Timing(first_block=1), "wire-blocks"),
+    "acknowledges-its-own": (Timing(takes_its_own=True), "wire-others wire-attempts"),
     "no-low-drive": (Timing(too_early=0), "wire-low-drive"),
     "short-low-drive": (Timing(too_early=2000), "wire-low-drive"),
 }
@@ -88,22 +82,18 @@ class Sending:
         self.frame, self.bits, self.began, self.at, self.is_on = frame, bits_of(frame), at, -1, True
 
 
-class BitBanged(Dut):
-    by_pin = True
+class BitBanged(ByPin):
+    def __init__(self, latency, timing, inner=None):
+        super().__init__(inner or Reference(), latency)
+        self.timing = timing
 
-    def __init__(self, latency, timing):
-        super().__init__()
-        self.latency, self.timing = latency, timing
-
-    def start(self, kind):
-        self.physical, self.is_low, self.interrupts, self.woken_at = None, False, [], NEVER
-        self.reset()
-
-    def reset(self):
-        """It is plugged in, or has its power: nothing waits."""
-        self.own, self.candidates, self.queue, self.tried = None, [], [], 0
+    def renew(self):
+        self.is_low = False
         self.sending, self.pulls_at, self.free, self.rested_at = None, NEVER, self.timing.free_new, self.now
         self.listen()
+
+    def is_sending(self):
+        return self.sending is not None and self.sending.is_on
 
     # The receiver.
 
@@ -133,18 +123,22 @@ class BitBanged(Dut):
             self.begin_bit()
         elif since < self.timing.bits[0]:
             self.error()
-            if not (self.sending and self.sending.is_on) and self.timing.too_early:
+            if not self.is_sending() and self.timing.too_early:
                 self.pull(self.timing.too_early)
         else:
             self.begin_bit()
 
     def begin_bit(self):
         self.fall, self.samples_at, self.ends_at = self.now, self.now + self.timing.sample, self.now + self.timing.bits[1]
-        is_for_it = self.own is not None and len(self.bits) >= 8 and self.value(0) & 15 == self.own
-        is_own = self.sending and self.sending.is_on
-        if len(self.bits) % BITS_OF_A_BLOCK == ACK_BIT and is_for_it and not is_own and len(self.bits) // BITS_OF_A_BLOCK >= self.timing.first_block:
+        if len(self.bits) % BITS_OF_A_BLOCK == ACK_BIT and self.is_to_acknowledge():
             # It hears of the fall late, and lets the line go when it should.
             self.pull(self.timing.acknowledge - self.latency)
+
+    def is_to_acknowledge(self):
+        to = self.value(0) & 15
+        if self.is_sending():
+            return self.timing.takes_its_own and self.held != [] and to != BROADCAST
+        return to in self.held and len(self.bits) // BITS_OF_A_BLOCK >= self.timing.first_block
 
     def rises(self):
         if self.fall is None:
@@ -158,47 +152,40 @@ class BitBanged(Dut):
 
     def error(self):
         """What comes is no frame."""
-        self.listen()
         if self.sending:
             self.attempt_over(False)
         else:
             self.free = self.timing.free_new
+        self.listen()
 
     def sample(self):
         self.samples_at = NEVER
         bit = int(not self.is_low)
         self.bits.append(bit)
-        if self.sending and self.sending.is_on:
-            at = len(self.bits) - 1
-            if at % BITS_OF_A_BLOCK != ACK_BIT and at < self.timing.looks_for and bit != self.sending.bits[at]:
-                self.gives_way()
-            elif at % BITS_OF_A_BLOCK == ACK_BIT and bit == int(self.value(0) & 15 != BROADCAST):
-                # A block that nobody takes, or that somebody refuses.
-                self.listen_after(self.attempt_over, False)
+        at = len(self.bits) - 1
+        if self.is_sending() and at % BITS_OF_A_BLOCK == ACK_BIT:
+            is_refused = bit == int(self.value(0) & 15 != BROADCAST)
+            if is_refused or self.bits[-2]:
+                self.attempt_over(not is_refused, bit)
+                self.listen()
                 return
+        elif self.is_sending() and at < self.timing.looks_for and bit != self.sending.bits[at]:
+            self.gives_way()
         if len(self.bits) % BITS_OF_A_BLOCK == 0 and self.bits[-2]:
-            self.listen_after(self.whole_frame, bit)
+            self.whole_frame(bit)
+            self.listen()
 
     def gives_way(self):
         """Somebody else pulls the line: it stops, and listens on."""
         self.sending.is_on, self.pulls_at = False, NEVER
 
-    def listen_after(self, then, value):
-        then(value)
-        self.listen()
+    def frame(self):
+        return bytes(self.value(block) for block in range(len(self.bits) // BITS_OF_A_BLOCK))
 
     def whole_frame(self, last):
-        frame = bytes(self.value(block) for block in range(len(self.bits) // BITS_OF_A_BLOCK))
-        is_to_all = frame[0] & 15 == BROADCAST
-        is_taken = bool(last) == is_to_all
-        if self.sending and self.sending.is_on:
-            self.attempt_over(is_taken)
-            return
-        if self.sending:
-            self.sending, self.pulls_at = None, NEVER
-        self.free = self.timing.free_new
-        if self.own is not None and frame[0] >> 4 != self.own and (is_to_all or frame[0] & 15 == self.own):
-            self.obey(frame, is_to_all)
+        """A frame of another device is over."""
+        self.sending, self.pulls_at, self.free = None, NEVER, self.timing.free_new
+        self.report("frame", self.frame(), last)
 
     # The sender.
 
@@ -219,60 +206,30 @@ class BitBanged(Dut):
         sending.at += 1
         self.pulls_at = self.now + (timing.start if is_start else timing.bit) if sending.at < len(sending.bits) else NEVER
 
-    def attempt_over(self, is_taken):
-        """An attempt of the first frame is over: it was taken, or it comes again."""
-        is_poll, was_on = len(self.queue[0]) == 1, self.sending.is_on
+    def attempt_over(self, is_taken, last=None):
+        """An attempt of the first frame is over: it was taken, or it comes again. Of one that was sent to its end `last` is the last acknowledge."""
+        is_poll, was_on = len(self.queue[0]) == 1, self.is_sending()
+        is_whole = last is not None and self.bits[-2]
         self.sending, self.pulls_at = None, NEVER
         if not was_on:
             # It has lost the line, which is no attempt.
             self.free = self.timing.free_new
             return
         self.tried += 1
-        is_done = is_taken or is_poll or self.tried >= self.timing.attempts
-        self.free = self.timing.free_next if is_taken or is_poll else self.timing.free_again
-        if is_done:
+        is_over = is_taken or is_poll
+        self.free = self.timing.free_next if is_over else self.timing.free_again
+        if is_over or self.tried >= self.timing.attempts:
             del self.queue[0]
             self.tried = 0
-            if is_poll:
-                self.polled(is_taken)
-
-    # What it says.
-
-    def address(self, physical):
-        self.physical = physical
-        self.reset()
-        if physical is not None:
-            self.candidates = list(ADDRESSES)
-            self.poll()
-
-    def poll(self):
-        if self.candidates:
-            self.queue.append(bytes([self.candidates[0] * 17]))
-
-    def polled(self, is_taken):
-        if not is_taken:
-            self.own = self.candidates[0]
-            self.queue.append(bytes([self.own << 4 | BROADCAST, 0x84, self.physical >> 8, self.physical & 255, 4]))
-            return
-        del self.candidates[0]
-        self.poll()
-
-    def obey(self, frame, is_to_all):
-        asker, opcode = frame[0] >> 4, frame[1] if len(frame) > 1 else None
-        to_one, to_all = self.own << 4 | asker, self.own << 4 | BROADCAST
-        if opcode is None or asker == BROADCAST or is_to_all:
-            return
-        answers = {0x46: bytes([to_one, 0x47]) + b"Bits", 0x9F: bytes([to_one, 0x9E, 5]), 0x8F: bytes([to_one, 0x90, 0]),
-                   0x83: bytes([to_all, 0x84, self.physical >> 8, self.physical & 255, 4]), 0x8C: bytes([to_all, 0x87, 0, 0x15, 0x82])}
-        if opcode in answers:
-            self.queue.append(answers[opcode])
-        elif opcode not in (0x00, 0x44, 0x45, 0x04, 0x36, 0x47, 0x90, 0x9E, 0x7E, 0x1B):
-            self.queue.append(bytes([to_one, 0x00, opcode, 4 if opcode == 0xFF else 0]))
+        if is_whole:
+            self.report("sent", self.frame(), last)
+        else:
+            self.say("failed")
 
     # Its time.
 
     def due(self):
-        return min(self.interrupts[0][0] if self.interrupts else NEVER, self.samples_at, self.ends_at, self.pulls_at, self.begins_at())
+        return min(self.samples_at, self.ends_at, self.pulls_at, self.begins_at())
 
     def step(self):
         """Does what is due now: edges that were heard, a sample, the end of a frame that stops, a pull."""
@@ -284,22 +241,6 @@ class BitBanged(Dut):
             self.error()
         if min(self.pulls_at, self.begins_at()) <= self.now:
             self.transmit()
-
-    def line(self, is_low):
-        self.interrupts.append((self.now + self.latency, is_low))
-
-    def wake(self):
-        self.step()
-
-    def answer(self, line):
-        super().answer(line)
-        if self.woken_at <= self.now:
-            self.woken_at = NEVER
-        next_due = max(self.now + 1, self.due())
-        if next_due < self.woken_at:
-            self.woken_at = next_due
-            self.wake_up(next_due - self.now)
-        return self.actions + ["idle"]
 
 
 if __name__ == "__main__":
