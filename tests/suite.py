@@ -520,7 +520,7 @@ def ill_formed_tests(pool):
 
 
 def broken_devices(pool):
-    """A device that breaks the protocol fails with what it did, and nothing waits for ever."""
+    """A device that breaks the protocol fails each test with what it did, and nothing waits for ever."""
     answers = "sh -c 'while read line; do printf \"%s\\nidle\\n\"; done'"
     pins = "sh -c 'read line; printf \"by pin\\n%s\\nidle\\n\"; while read line; do echo idle; done'"
     cases = [
@@ -557,10 +557,12 @@ def broken_devices(pool):
         ("sh -c 'while read line; do echo idle; done'", 60, "it holds no logical address: send tv 0>{la} give-osd-name"),
     ]
     right = True
-    ran = [(command, fault, pool.submit(suite_of, command, "--kind", "player", "--limit", str(limit), "osd-name")) for command, limit, fault in cases]
+    ran = [(command, fault, pool.submit(suite_of, command, "--kind", "player", "--limit", str(limit), "osd-name", "version")) for command, limit, fault in cases]
     for command, fault, got in ran:
         got = got.result()
-        if got.returncode != 1 or "# the device under test: " + fault not in got.stdout or "not ok 1 - osd-name" not in got.stdout:
+        # (what holds no address is named by the line that asks it)
+        is_named = got.stdout.count("# the device under test: " + fault) == (1 if "{la}" in fault else 2)
+        if got.returncode != 1 or not is_named or "not ok 1 - osd-name" not in got.stdout or "not ok 2 - version" not in got.stdout:
             print("suite: %s: %s %s" % (command, got.stdout, got.stderr))
             right = False
     for words in (["--kind", "combo"], ["--kind", "player", "no-such-test"], [], ["--kind", "player", "--port", "5"]):
