@@ -163,8 +163,19 @@ def rows_of_constants(tree):
             yield from rows_of('%s/%s.rt' % (crate, module), found[1].split('\n'), source.count('\n', 0, found.start(1)) + 1)
 
 
+def rows_of_fields(tree):
+    """the names in tables of the fields of data blocks, which a definition cites as they are, each once: byte, highest bit, lowest bit, name"""
+    names = {'reserved'}
+    for path in files(tree, 'crates/edid_blocks/src/*.rt'):
+        for at, line in enumerate(read(path).split('\n'), 1):
+            found = re.match(r' *\d+ \d+ \d+ "([^"]+)" \[', line)
+            if found and found[1] not in names:
+                names.add(found[1])
+                yield Row('%s/%s:%d' % (crate_of(tree, path), os.path.basename(path), at), [found[1]], [], [])
+
+
 def all_rows(tree):
-    return list(rows_of_definitions(tree)) + list(rows_of_constants(tree))
+    return list(rows_of_definitions(tree)) + list(rows_of_constants(tree)) + list(rows_of_fields(tree))
 
 
 # ---------------------------------------------------------------- crates
