@@ -110,7 +110,7 @@ with hdminet.Room(ROOM) as room:
         assert (refused.line, refused.cause, refused.word) == (1, "word", "frob"), refused
     else:
         raise AssertionError("taken")
-    # The session of docs/live.md, and the first edges of docs/formats.md.
+    # The session of docs/live.md, and the first edges of docs/run.md.
     edges = list(room.run_to(20_000))
     assert edges[:2] == [(12_000, 0), (15_700, 1)] and room.horizon == 20_000, edges
     room.press(1_000_000, "p1", "play")

@@ -704,7 +704,7 @@ def failures_are_drawn(t, b):
                  " return [pixel.map(part => part.toString(16).padStart(2, '0')).join(''), colours.failed.slice(1)]; })()")
     near = all(abs(int(pixel[0][i:i + 2], 16) - int(pixel[1][i:i + 2], 16)) < 40 for i in (0, 2, 4))
     t.holds("the failure is in the strip", near, pixel)
-    # A report and its trace in one text, of which each line of the trace begins with `# ` (docs/formats.md, "Of a report")
+    # A report and its trace in one text, of which each line of the trace begins with `# ` (docs/json.md, "Of a report")
     report = program(example("wrong-film.test"), "check", "--json")
     trace = program(program(example("wrong-film.test"), "check", "--plain"), "run", "--json")
     load(b, report + '{"line":"# trace","type":"trace"}\n' + trace.replace('{"line":"', '{"line":"# '))

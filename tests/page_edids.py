@@ -1,4 +1,4 @@
-"""What the page is to show of an EDID, byte by byte: objects of `edid --json` (docs/formats.md) and places of lines, by hand from
+"""What the page is to show of an EDID, byte by byte: objects of `edid --json` (docs/json.md) and places of lines, by hand from
 E-EDID 3 and CTA-861 7.5. Nothing here is taken from view/."""
 import json
 import os

@@ -26,7 +26,7 @@ VERDICTS = {
     "free": "Nobody answered the poll: its sender takes the address.",
     "taken": "Somebody acknowledged the poll: the address is taken.",
 }
-# docs/formats.md, causes of a refused event
+# docs/run.md, causes of a refused event
 CAUSES = {
     "port-range": "the parent has no such port",
     "port-taken": "something is plugged into that port",
@@ -421,7 +421,7 @@ class Page:
                 if logical(self.after[name]) != logical(self.before[name])]
 
 
-# docs/formats.md, the state line; CEC, Deck Info
+# docs/run.md, the state line; CEC, Deck Info
 DECKS = {"11": "play", "14": "still", "17": "fast forward", "18": "fast reverse", "19": "no medium", "1a": "stop", "1b": "skip forward",
          "1c": "skip reverse"}
 

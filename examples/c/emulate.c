@@ -1,6 +1,6 @@
 /* The emulator over C. Reads a topology, a line `script` and a script from standard input, as `hdminet run` does, and writes the
    trace of the run; with the word `edges` the falls and rises of its line, and with `check` the report of the script's
-   expectations, with status 1 where one does not hold. docs/formats.md has the texts. */
+   expectations, with status 1 where one does not hold. docs/run.md has the texts. */
 #include "hdminet.h"
 
 #include <inttypes.h>

@@ -1,5 +1,5 @@
 /* A receiver of the CEC line. It takes the falls and rises of the line, as `hdminet run --edges` writes them and as
-   docs/formats.md has them, and prints what was read, as `hdminet mon` does.
+   docs/mon.md has them, and prints what was read, as `hdminet mon` does.
 
    In a device `edge` is what the interrupt of the line's pin calls, and `wake` what a timer calls that is set to
    hdminet_receiver_wakes_at. Here the instants of both come from the file. */

@@ -338,7 +338,7 @@ def edid_meaning(edid: Bytes) -> str:
 
 @taking
 def emulate(topology: Text, script: Text) -> str:
-    """The trace of the run of a script on a topology, both in the words of docs/formats.md."""
+    """The trace of the run of a script on a topology, both in the words of docs/run.md."""
     return _filled(_library.hdminet_emulate, topology, len(topology), script, len(script), room=1 << 16).decode("latin-1")
 
 

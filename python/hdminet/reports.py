@@ -25,7 +25,7 @@ class Refused(ValueError):
 
 class Test(NamedTuple):
     """A test of a report: an expectation, or a refused event that none expects. `rounds` are the objects below one that fails: its window,
-    and the rounds that were seen in it, or the state (docs/formats.md)."""
+    and the rounds that were seen in it, or the state (docs/check.md)."""
 
     number: int
     script_line: int

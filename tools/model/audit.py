@@ -1,4 +1,4 @@
-"""The audit of a capture: what docs/formats.md ("Audit of a capture") has below each reading, and at the end. What the standard
+"""The audit of a capture: what docs/mon.md ("Audit of a capture") has below each reading, and at the end. What the standard
 calls what a line leaves as bytes (`  # WORD`) is left out."""
 import wire
 

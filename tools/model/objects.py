@@ -1,4 +1,4 @@
-"""Lines of a trace, of readings or of a report as objects of JSON: what docs/formats.md says of them, by Python's json."""
+"""Lines of a trace, of readings or of a report as objects of JSON: what docs/json.md says of them, by Python's json."""
 import json
 import re
 import wire
@@ -136,7 +136,7 @@ def room_objects(data, out):
     return objects('\n'.join(heads).encode(), head_told_of) + objects(out, told)
 
 
-# The lines of an audit below readings (docs/formats.md, "Audit of a capture"): the kind, the section of HDMI 1.4 CEC, whether the
+# The lines of an audit below readings (docs/mon.md, "Audit of a capture"): the kind, the section of HDMI 1.4 CEC, whether the
 # standard has it otherwise, and the words. Values are numbers but for TEXTS.
 TEXTS = ('initiator', 'destination', 'opcode', 'verdict', 'before', 'address', 'word', 'kind')
 SPAN = r'(?P<least>\d+)\.\.(?P<most>\d+)'
