@@ -44,6 +44,16 @@ TAGS = [
     (7, "79", "HDMI Forum Sink Capability Data Block"),
 ]
 
+# The bytes with which both lengths of version 1 of Dolby Vision begin.
+DOLBY_VISION_1 = """5 4 2 DM_Version
+5 1 1 2160p60
+5 0 0 YCbCr 4:2:2 at 12 bits
+6 7 1 Target max luminance
+6 0 0 Global_Dimming
+7 7 1 Target min luminance
+7 0 0 Colorimetry
+"""
+
 # Data blocks, each with its fields: the byte as the standards count it, where the byte of tag and length is byte 0, the highest bit and
 # the lowest one, and the name. What the standards give no name has one of this profile's own.
 FIELDS = [
@@ -293,14 +303,7 @@ FIELDS = [
     # Dolby Vision, of version 1 in seven and in ten bytes, of version 2, and of two versions of which only the bytes are told
     (7, "01 46d000 2f c9 13 5d 21 41 a9", """
 5 7 5 version
-5 4 2 DM_Version
-5 1 1 2160p60
-5 0 0 YCbCr 4:2:2 at 12 bits
-6 7 1 Target max luminance
-6 0 0 Global_Dimming
-7 7 1 Target min luminance
-7 0 0 Colorimetry
-8 7 5 blue x
+""" + DOLBY_VISION_1 + """8 7 5 blue x
 8 4 2 blue y
 8 1 0 low latency
 9 7 1 green x
@@ -310,15 +313,7 @@ FIELDS = [
 11 7 3 red x
 11 2 0 red y high
 """),
-    (7, "01 46d000 2f c9 13 00 aa 50 40 b0 26 0f", """
-5 4 2 DM_Version
-5 1 1 2160p60
-5 0 0 YCbCr 4:2:2 at 12 bits
-6 7 1 Target max luminance
-6 0 0 Global_Dimming
-7 7 1 Target min luminance
-7 0 0 Colorimetry
-8 7 0 reserved byte
+    (7, "01 46d000 2f c9 13 00 aa 50 40 b0 26 0f", DOLBY_VISION_1 + """8 7 0 reserved byte
 9 7 0 red x
 10 7 0 red y
 11 7 0 green x
