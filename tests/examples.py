@@ -2,7 +2,8 @@
 """tests/examples.py [PROGRAM..]: each file of examples/ with what the program writes of it, to the byte.
 
 The ending of an output says which command writes it, and of which input (OUTPUTS, below). The program reads each input from standard
-input, and once more from the file that it names. The text of an EDID that has no bytes beside it comes back from the bytes that are
+input, and once more from the file that it names. What is written of an EDID is also written where no flag says that its file has
+a text, and of a file with its hex dump. The text of an EDID that has no bytes beside it comes back from the bytes that are
 made of it. A file of examples/ that is neither an input nor an output fails. PROGRAM is
 crates/hdminet/out/hdminet, and what Rattle's own compiler makes of the same sources, hdminet.by-rattle beside it, where none is given.
 The last line is 'examples: N passed, M failed', and the status is 0 where M is 0."""
@@ -94,6 +95,11 @@ def cases():
     yield "edid --merge", ["lg-oled55b6v.edid", "denon-avr-x2300w.edid"], "denon-avr-x2300w.merged"
 
 
+def dump(data):
+    """The hex dump of some bytes, sixteen a line."""
+    return b"".join(b"%s\n" % data[at : at + 16].hex(" ").encode() for at in range(0, len(data), 16))
+
+
 def main():
     taken = programs()
     passed, failed, used = 0, [], set(OTHERS)
@@ -124,6 +130,10 @@ def main():
         ways = [ran(program, words, data)]
         if len(files) == len(sources):
             ways.append(ran(program, words + files, b""))
+        if command in ("edid --text --raw", "edid --words --raw"):
+            ways.append(ran(program, ["edid", "--raw"] + files, b""))
+        if files[0].endswith(".edid") and "--merge" not in words:
+            ways.append(ran(program, words + ["/dev/stdin"], dump(data)))
         return [said for way in ways if way != (status, want, fault)]
 
     every = list(cases())

@@ -55,6 +55,14 @@ static void check(void) {
     code = hdminet_check(TEXT(topology), TEXT(script), room, sizeof room, &counts).code;
 }
 
+/* A session, which is opened, answers lines, and is closed. */
+static void session(void) {
+    hdminet_live live = HDMINET_LIVE_CLOSED;
+    code = hdminet_live_open(&live, TEXT(topology), room, sizeof room).code | hdminet_live_line(&live, TEXT("at 1000000 press p1 play"), room, sizeof room).code;
+    code |= hdminet_live_edge(&live, 20000, room, sizeof room).code | hdminet_live_line(&live, TEXT("end 4000000"), room, sizeof room).code;
+    hdminet_live_close(&live);
+}
+
 static void hear(void) {
     hdminet_receiver receiver = hdminet_receiver_new();
     hdminet_reading reading = {0};
@@ -99,6 +107,7 @@ static const struct { const char *name; void (*call)(void); } calls[] = {
     {"hdminet_edid_read", ddc}, {"hdminet_edid_text and hdminet_edid_bytes", of_text}, {"hdminet_edid_check", rules},
     {"hdminet_edid_meaning", meaning},
     {"hdminet_emulate", emulate}, {"hdminet_emulate_edges", emulate_edges}, {"hdminet_check", check}, {"hdminet_watch", watch},
+    {"a session", session},
 };
 
 int main(int count, char **words) {

@@ -254,10 +254,41 @@ def ranges():
     assert not left, left
 
 
+def said(topology, program_of):
+    """What a room says of some lines, and of what it refuses."""
+    told = []
+    with hdminet.Room(topology, program_of) as room:
+        for line in ("edges on", "run to 400000", "wait", "frob", "show tv", "at 1000000 press p1 play", "run to 5", "edge 1100000", "pulse 1200000 600",
+                     "end 1500000", "wait"):
+            try:
+                told.append(room.ask(line))
+            except hdminet.LineRefused as refusal:
+                told.append((refusal.line, refusal.cause, refusal.word))
+            except hdminet.Refused as refusal:
+                told.append(str(refusal))
+        return told, room.trace, room.script, room.horizon
+
+
+def rooms():
+    """A room of the library says what one of the program says, also before its first line."""
+    plain = "device tv tv 4\ndevice p1 player 0\nplug p1 tv 1\n"
+    for topology in (plain, plain + "edid %s\n" % EDID.hex()):
+        of_library, of_program = said(topology, None), said(topology, program)
+        assert of_library == of_program and len(of_library[1]) > 10, (of_library, of_program)
+    try:
+        hdminet.Room(plain + "frob\n")
+    except hdminet.Error as fault:
+        assert (fault.code, fault.line) == (60, 4), fault
+    else:
+        raise AssertionError("taken")
+
+
 frames()
 edids()
 lines()
 ranges()
+if program and hdminet.calls.has_sessions():
+    rooms()
 if hasattr(hdminet.calls._library, "hdminet_emulate"):
     judged_edids()
     runs()

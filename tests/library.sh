@@ -7,7 +7,7 @@
 #
 # $CC is the C compiler, cc where there is none. $HDMINET_RUN is what stands before a program that it has built, as
 # 'qemu-aarch64 -L /usr/aarch64-linux-gnu' for CC=aarch64-linux-gnu-gcc; nothing is called from Python then.
-# $HDMINET_FRAMES is how many random frames are taken, $HDMINET_KINDS which kinds of device a pin in Python is tested as.
+# $HDMINET_FRAMES is how many random frames are taken, $HDMINET_SESSIONS how many random sessions, $HDMINET_KINDS which kinds of device a pin in Python is tested as.
 set -u
 top=$(cd "$(dirname "${BASH_SOURCE[0]}")/.." && pwd)
 room=$(mktemp -d)
@@ -46,7 +46,7 @@ if [ -z "$run" ]; then
   line "follower.c, whose interrupts are 700 late, breaks the frame" follows 700 'short 010010000 by p1 out -'
 fi
 
-# A library of another major version, or with none, is refused by its version; one of this major version is taken.
+# A library of another major version, or with none, is refused by its version; one of a lesser minor version has no sessions.
 of_version() {
   local number=$1 said=$2
   echo "unsigned hdminet_version(void) { return $number; }" > "$room/version.c"
@@ -58,7 +58,7 @@ try:
 except ImportError as old:
     print("%s: %s" % (type(old).__name__, str(old).rpartition(" has ")[2]))
 else:
-    print(hdminet.library_version())
+    print(hdminet.library_version(), hdminet.calls.has_sessions())
 PY
     )" = "$said" ]
 }
@@ -67,7 +67,7 @@ if [ -z "$run" ]; then
   for number in '' 999 2000 1999999; do
     line "a library of version ${number:-0} is refused" of_version "$number" "OldLibrary: version ${number:-0}, and this module is of version $here"
   done
-  line "one of a greater minor version is taken" of_version 1999 1999
+  line "one without sessions is taken" of_version 1000 '1000 False'
 fi
 
 # A checkout with the two crates of exports, and one below them.
@@ -333,6 +333,17 @@ python_pin() {
   "$top/tools/suite" --list | cut -f 1 | PYTHONDONTWRITEBYTECODE=1 PYTHONPATH="$at/python" HDMINET_LIBRARY="$at/lib/libhdminet.so" \
     xargs -P 4 -n 30 "$top/tools/suite" --program "$program" --dut "$top/tests/suite/pinned.py 100" --kind "$1"
 }
+# The firmware of follower.c by sessions of the library has the trace that it has by those of the program.
+follower_of_library() {
+  link follower-library -lhdminet "$top/examples/c/follower.c" -DCEC_LIBRARY && $cc -std=c11 -O2 -o "$room/follower" "$top/examples/c/follower.c" || return 1
+  local latency
+  for latency in 1 300 500 700; do
+    HDMINET=$program $run "$room/follower" $latency < "$top/examples/c/follower.net" > "$room/due" && [ -s "$room/due" ] &&
+      $run "$room/follower-library" $latency < "$top/examples/c/follower.net" | cmp - "$room/due" || return 1
+  done
+}
+# Valgrind finds no fault in the calls of sessions, and no memory that is lost.
+is_clean() { valgrind -q --error-exitcode=9 --leak-check=full --show-leak-kinds=all "$room/library-live" 3; }
 acknowledges() { over_pin "$1" "$top/tests/suite/two-players.test"; }
 # Who acknowledges a 1 that is low for 600 begins before it rises: later it is another bit, which comes too early.
 breaks_the_acknowledge() {
@@ -352,6 +363,9 @@ elif [ $# -ge 1 ]; then
   line "library.c" $run "$room/library" "$top/examples/living-room.edid" "$top/examples/living-room.edid.txt" "$count" "$room/texts" "$room/dumps"
   line "library-run.c links" link library-run -lhdminet "$top/tests/library-run.c" -Wl,--wrap={malloc,realloc}
   line "library-run.c" $run "$room/library-run" "$top"/examples/lg-oled55b6v.{edid,edid.txt,findings,meaning}
+  line "library-live.c links" link library-live -lhdminet "$top/tests/library-live.c" -Wl,--wrap={malloc,realloc}
+  line "library-live.c" $run "$room/library-live"
+  [ -n "$run" ] || ! command -v valgrind > /dev/null || line "library-live.c under valgrind" is_clean
   line "library-stack.c links" link library-stack -lhdminet "$top/tests/library-stack.c"
   line "library-stack.c" $run "$room/library-stack" "$top/examples/living-room.edid"
   line "receiver.c links" link receiver -lhdminet_wire "$top/examples/c/receiver.c"
@@ -377,6 +391,8 @@ elif [ $# -ge 1 ]; then
   fi
   if [ -n "$program" ] && [ -z "$run" ]; then
     for kind in $kinds; do line "a pin in Python, as a $kind" python_pin "$kind"; done
+    line "random sessions, as the program's" "$top/tests/sessions.py" "${HDMINET_SESSIONS:-200}" "$at" "$program"
+    line "follower.c by the library's sessions" follower_of_library
   fi
   if [ -n "$program" ]; then
     line "dut.c links" link dut -lhdminet_wire "$top/examples/c/dut.c"

@@ -187,7 +187,7 @@ export class ByteMap {
   }
   legend() {
     const { bytes, stretches } = this.edid;
-    const parts = counted(stretches.filter(one => one.part).length, 'part');
+    const parts = counted(stretches.filter(one => one.fields.length > 0).length, 'part');
     const words = `${counted(bytes.length, 'byte')}, ${parts} with fields. A click or an arrow key selects a byte.`;
     return [html('p', { class: 'dim' }, words)];
   }

@@ -1,5 +1,5 @@
 // An EDID byte by byte: of which part, of which fields and of which line of its text each byte is. Parts and fields are the
-// program's (`edid --json`). Bytes without a part are those of a line of the text, by the places of E-EDID 3 and CTA-861 7.5.
+// program's (`edid --json`). A line of the text that is no data block's has its bytes by the places of E-EDID 3 and CTA-861 7.5.
 
 import { BLOCK, readMeaning } from './texts.js';
 
@@ -11,6 +11,9 @@ const BASE = [
   [18, 2], [8, 2], [10, 2], [12, 4], [16, 2], [20, 1], [21, 2], [23, 1], [24, 1], [25, 10], [35, 3],
   ...Array.from({ length: 8 }, (_, i) => [38 + 2 * i, 2]), ...Array.from({ length: 4 }, (_, i) => [54 + TIMING * i, TIMING]),
 ];
+
+/* Whether a part is a data block: it begins with its tag. */
+const isBlock = ({ fields: [first] }) => Boolean(first) && first.name === 'Tag Code';
 
 /* Gives each line of the text its bytes. Those of an extension follow one another: flags, data blocks, timings, what is left. */
 function placeLines(lines, { parts, bytes }) {
@@ -28,7 +31,7 @@ function placeLines(lines, { parts, bytes }) {
     } else if (/^(ext|cta|cta-none)$/.test(line.word)) {
       block += 1;
       put(line, first + BLOCK, line.word === 'ext' ? first + 2 * BLOCK - 1 : first + BLOCK + 4);
-      blocks = parts.filter(part => part.from >= at && part.to < first + 2 * BLOCK);
+      blocks = parts.filter(part => isBlock(part) && part.from >= at && part.to < first + 2 * BLOCK);
     } else if (line.word === 'timing' || line.word === 'tail') {
       if (lines[i - 1].word !== 'timing') at = first + Math.max(bytes[first + 2] || 0, 4);
       put(line, at, line.word === 'tail' ? first + BLOCK - 1 : at + TIMING);
@@ -46,7 +49,8 @@ function ownName(at) {
   return at === BLOCK - 2 ? 'number of extensions' : 'no line of the text';
 }
 
-/* Stretches that tile the bytes: the parts, then the lines where none stands, then what is left. A line may have no bytes. */
+/* Stretches that tile the bytes: the data blocks, then the lines where none stands, with the fields of their bytes, then the other
+   parts, then what is left. A line may have no bytes. */
 function stretchesOf({ lines, parts, bytes }) {
   const count = bytes.length;
   const owners = new Array(count).fill(null);
@@ -63,12 +67,16 @@ function stretchesOf({ lines, parts, bytes }) {
     }
     if (isThere || from === to) stretches.push(stretch);
   };
-  for (const part of parts) take(part.from, part.to, { name: part.name, part, fields: part.fields });
+  const all = parts.flatMap(part => part.fields);
+  const fieldsOf = ({ from, to }) => all.filter(({ at }) => at >= from && at < to);
+  const takePart = part => take(part.from, part.to, { name: part.name, part, fields: part.fields });
+  parts.filter(isBlock).forEach(takePart);
   for (const line of lines) {
     const owner = owners.slice(line.from, line.to).find(one => one && one.part);
     if (owner) owner.lines.push(line);
-    else take(line.from, line.to, { lines: [line] });
+    else take(line.from, line.to, { lines: [line], fields: fieldsOf(line) });
   }
+  parts.filter(part => !isBlock(part)).forEach(takePart);
   for (let at = 0; at < count; at++) {
     if (owners[at]) continue;
     let to = at + 1;
@@ -100,7 +108,8 @@ const NAMED = [
 
 /* Which bytes a finding is of: those of its timing, or those of the value at fault that the program names. */
 function bytesOf(finding, edid) {
-  const { lines, parts } = edid;
+  const { lines } = edid;
+  const parts = edid.parts.filter(isBlock);
   const all = ({ from, to }) => Array.from({ length: to - from }, (_, i) => from + i);
   const some = list => list.filter(Boolean).flatMap(all);
   if (finding.timing !== null) return some([lines.filter(line => line.word === 'timing')[finding.timing - 1]]);

@@ -1,6 +1,6 @@
 /* The CEC pin of a device, as firmware has it: it is set and read, an edge of the line interrupts, and a timer comes once. A firmware
-   that is written over this header runs on a board and, unchanged, in an emulated room on the host, by a session of `hdminet live` (docs/live.md).
-   examples/c/follower.c is one.
+   that is written over this header runs on a board and, unchanged, in an emulated room on the host, by a session of `hdminet live` (docs/live.md)
+   or, with -DCEC_LIBRARY, of libhdminet (docs/library.md). examples/c/follower.c is one.
 
    On the host the program reads a topology, a line `script` and a script with a device `dut` of the kind outside, and writes the
    trace; its argument is how late interrupts come, in microseconds. On a Raspberry Pi Pico (PICO_BOARD is defined by its SDK) the
@@ -74,10 +74,9 @@ int main(void) {
 #include <string.h>
 #include <unistd.h>
 
-/* How many edges wait for their interrupts, and how long a line of a session may be. */
-enum { CEC_MOST_EDGES = 64, CEC_MOST_LINE = 4200 };
+/* How many edges wait for their interrupts, how long a line of a session may be, and a topology. */
+enum { CEC_MOST_EDGES = 64, CEC_MOST_LINE = 4200, CEC_MOST_TOPOLOGY = 8192 };
 
-static FILE *cec_to, *cec_from; /* the session */
 static uint64_t cec_instant, cec_latency, cec_timer = UINT64_MAX;
 static bool cec_level_is_low;
 static struct { uint64_t t; bool is_low; } cec_edges[CEC_MOST_EDGES];
@@ -88,8 +87,54 @@ static void cec_stop(const char *why) {
     exit(2);
 }
 
+/* Takes what the session tells: edges wait for their interrupts, the trace is written, and the horizon is the instant that it is. Returns
+   whether it is the answer. */
+static bool cec_told(const char *told) {
+    if (*told == '!') cec_stop(told);
+    if (*told == '=') cec_instant = strtoull(told + 2, NULL, 10);
+    else if (*told != '~') fputs(told, stdout);
+    else if (cec_waiting < CEC_MOST_EDGES) {
+        char *level;
+        cec_edges[cec_waiting].t = strtoull(told + 2, &level, 10);
+        cec_level_is_low = cec_edges[cec_waiting++].is_low = level[1] == '0';
+    }
+    return *told == '=';
+}
+
+#ifdef CEC_LIBRARY
+
+#include "hdminet.h"
+
+static hdminet_live cec_live = HDMINET_LIVE_CLOSED;
+static uint8_t cec_room[1 << 16];
+
+/* Takes each line of a text that the library has put. */
+static void cec_take(hdminet_answer answer) {
+    char told[CEC_MOST_LINE];
+    if (answer.code != HDMINET_DONE) {
+        snprintf(told, sizeof told, "the library answers %" PRIu32 ", line %" PRIu64, answer.code, answer.line);
+        cec_stop(told);
+    }
+    for (size_t at = 0, length; at < answer.length; at += length) {
+        const uint8_t *end = memchr(cec_room + at, '\n', answer.length - at);
+        length = (size_t)(end - (cec_room + at)) + 1;
+        snprintf(told, sizeof told, "%.*s", (int)length, (const char *)cec_room + at);
+        cec_told(told);
+    }
+}
+
+static void cec_open(const char *topology) {
+    cec_take(hdminet_live_open(&cec_live, (const uint8_t *)topology, strlen(topology), cec_room, sizeof cec_room));
+}
+
+static void cec_line(const char *line) { cec_take(hdminet_live_line(&cec_live, (const uint8_t *)line, strlen(line), cec_room, sizeof cec_room)); }
+
+#else
+
+static FILE *cec_to, *cec_from; /* the session */
+
 /* Starts `hdminet live`, of the program that HDMINET names, or the one in the PATH. */
-static void cec_open(void) {
+static void cec_open(const char *topology) {
     const char *program = getenv("HDMINET");
     int to[2], from[2];
     if (pipe(to) != 0 || pipe(from) != 0) cec_stop("no pipe");
@@ -103,29 +148,21 @@ static void cec_open(void) {
     }
     close(to[0]), close(from[1]);
     cec_to = fdopen(to[1], "w"), cec_from = fdopen(from[0], "r");
+    fprintf(cec_to, "%sscript\n", topology);
 }
 
-/* Sends a line, and reads what it is answered: edges wait for their interrupts, the trace is written, and the horizon is the instant
-   that it is. */
+/* Sends a line, and reads what is told for it. */
 static void cec_line(const char *line) {
     char told[CEC_MOST_LINE];
     fprintf(cec_to, "%s\n", line);
     fflush(cec_to);
     while (fgets(told, sizeof told, cec_from)) {
-        if (*told == '!') cec_stop(told);
-        if (*told == '=') {
-            cec_instant = strtoull(told + 2, NULL, 10);
-            return;
-        }
-        if (*told != '~') fputs(told, stdout);
-        else if (cec_waiting < CEC_MOST_EDGES) {
-            char *level;
-            cec_edges[cec_waiting].t = strtoull(told + 2, &level, 10);
-            cec_level_is_low = cec_edges[cec_waiting++].is_low = level[1] == '0';
-        }
+        if (cec_told(told)) return;
     }
     cec_stop("the session has ended");
 }
+
+#endif
 
 static void cec_ask(const char *words, uint64_t t, const char *rest) {
     char line[64];
@@ -153,17 +190,19 @@ static void cec_call(void) {
 }
 
 int main(int count, char **words) {
-    char line[CEC_MOST_LINE];
+    char line[CEC_MOST_LINE], topology[CEC_MOST_TOPOLOGY] = "";
     uint64_t end = 0;
     if (count != 2) cec_stop("usage: PROGRAM LATENCY < ROOM");
     cec_latency = strtoull(words[1], NULL, 10);
-    cec_open();
-    bool is_script = false;
+    while (fgets(line, sizeof line, stdin) && strcmp(line, "script\n") != 0) {
+        if (strlen(topology) + strlen(line) >= sizeof topology) cec_stop("the topology is too long");
+        strcat(topology, line);
+    }
+    cec_open(topology);
     while (end == 0 && fgets(line, sizeof line, stdin)) {
         line[strcspn(line, "\n")] = 0;
-        if (is_script && strncmp(line, "end ", 4) == 0) end = strtoull(line + 4, NULL, 10);
-        else if (is_script) cec_line(line);
-        else fprintf(cec_to, "%s\n", line), is_script = strcmp(line, "script") == 0;
+        if (strncmp(line, "end ", 4) == 0) end = strtoull(line + 4, NULL, 10);
+        else cec_line(line);
     }
     firmware_begin();
     while (cec_instant < end) {

@@ -1,5 +1,5 @@
-"""The calls of libhdminet.so over ctypes: frames of the CEC line and their texts, EDIDs, the emulator, a receiver and a sender of the
-line. The library is looked for where HDMINET_LIBRARY says, in home/release/lib beside this file, in ../../lib of it, and where the
+"""The calls of libhdminet.so over ctypes: frames of the CEC line and their texts, EDIDs, the emulator, sessions, a receiver and a sender of
+the line. The library is looked for where HDMINET_LIBRARY says, in home/release/lib beside this file, in ../../lib of it, and where the
 system keeps libraries. Times are whole microseconds."""
 
 import ctypes
@@ -10,6 +10,8 @@ import operator
 import os
 import re
 import sys
+import threading
+import weakref
 from typing import Any, Callable, Dict, List, NamedTuple, Optional, Sequence, Tuple, TypeVar, Union, cast
 
 Bytes = Union[bytes, bytearray, memoryview, Sequence[int]]
@@ -21,11 +23,11 @@ __all__ = ["Counted", "Error", "Findings", "OldLibrary", "Reading", "Receiver", 
            "library_version", "watch"]
 
 # HDMINET_VERSION of the headers with which this module was written.
-VERSION = 1000
+VERSION = 1001
 
 # The numbers of answers, as include/hdminet_wire.h and include/hdminet.h have them.
 CODES = {
-    1: "room", 2: "state", 3: "late", 4: "absent", 5: "heard",
+    1: "room", 2: "state", 3: "late", 4: "absent", 5: "heard", 6: "closed", 7: "line",
     10: "frame: empty", 11: "frame: too-long",
     20: "frame: address", 21: "frame: name", 22: "frame: too-long", 23: "frame: count", 24: "frame: operand",
     30: "edid: length", 31: "edid: count", 32: "edid: base header", 33: "edid: base checksum", 34: "edid: base revision",
@@ -41,7 +43,7 @@ CODES = {
     90: "expect: word", 91: "expect: number", 92: "expect: label", 93: "expect: order",
     100: "edges: line", 101: "edges: order",
 }
-DONE, ROOM, ABSENT = 0, 1, 4
+DONE, ROOM, ABSENT, CLOSED = 0, 1, 4, 6
 FATES = (None, "delivered", "unacked", "lost", "broken")
 ENDINGS = (None, "complete", "short", "silent", "bad-start", "long", "open")
 MOST_BITS = 160
@@ -97,6 +99,10 @@ class _Counts(ctypes.Structure):
     _fields_ = [("count", ctypes.c_uint64), ("failed", ctypes.c_uint64)]
 
 
+class _Live(ctypes.Structure):
+    _fields_ = [("is_open", ctypes.c_bool), ("at", ctypes.c_void_p)]
+
+
 _BYTES: List[Any] = [ctypes.c_char_p, ctypes.c_size_t]
 _CALLS: Dict[str, Tuple[Any, List[Any]]] = {
     "hdminet_version": (ctypes.c_uint32, []),
@@ -119,6 +125,10 @@ _CALLS: Dict[str, Tuple[Any, List[Any]]] = {
     "hdminet_emulate": (_Answer, _BYTES * 3),
     "hdminet_emulate_edges": (_Answer, _BYTES * 3),
     "hdminet_check": (_Answer, _BYTES * 3 + [ctypes.POINTER(_Counts)]),
+    "hdminet_live_open": (_Answer, [ctypes.POINTER(_Live)] + _BYTES * 2),
+    "hdminet_live_line": (_Answer, [ctypes.POINTER(_Live)] + _BYTES * 2),
+    "hdminet_live_again": (_Answer, [ctypes.POINTER(_Live)] + _BYTES),
+    "hdminet_live_close": (None, [ctypes.POINTER(_Live)]),
     "hdminet_watch": (_Answer, _BYTES * 2),
     "hdminet_edid_bytes": (_Answer, _BYTES * 2),
     "hdminet_edid_check": (_Answer, _BYTES * 2 + [ctypes.POINTER(ctypes.c_bool)]),
@@ -152,6 +162,11 @@ for _name, (_result, _parameters) in _CALLS.items():
     if hasattr(_library, _name):
         _call = getattr(_library, _name)
         _call.restype, _call.argtypes = _result, _parameters
+
+
+def has_sessions() -> bool:
+    """Whether the library at hand has the calls of sessions, as it has from version 1001 on."""
+    return hasattr(_library, "hdminet_live_open")
 
 
 def _is_number(value: Any) -> bool:
@@ -372,6 +387,38 @@ def check_text(topology: Text, script: Text) -> Counted:
 def watch(edges: Text) -> str:
     """What was read on a line of these falls and rises, a line each."""
     return _filled(_library.hdminet_watch, edges, len(edges), room=1 << 16).decode("latin-1")
+
+
+class Session:
+    """A session of docs/live.md in memory of the library. Threads may each have theirs, and where they share one they wait for each other."""
+
+    @taking
+    def __init__(self, topology: Text) -> None:
+        self._live, self._turn = _Live(), threading.Lock()
+        self._at = ctypes.byref(self._live)
+        self._room = ctypes.create_string_buffer(4096)
+        self._end = weakref.finalize(self, _library.hdminet_live_close, self._at)
+        self.first = self._text(_library.hdminet_live_open(self._at, topology, len(topology), self._room, len(self._room)))
+
+    def _text(self, answer: _Answer) -> str:
+        # What does not fit was taken, and is put once more.
+        if answer.code == ROOM:
+            self._room = ctypes.create_string_buffer(answer.length)
+            answer = _library.hdminet_live_again(self._at, self._room, len(self._room))
+        if answer.code != DONE:
+            raise Error(answer.code, answer.line)
+        return ctypes.string_at(self._room, answer.length).decode("latin-1")
+
+    @taking
+    def answer(self, line: Any) -> str:
+        """What `hdminet live` writes for a line, up to its answer and with that."""
+        with self._turn:
+            return self._text(_library.hdminet_live_line(self._at, line, len(line), self._room, len(self._room)))
+
+    def close(self) -> None:
+        """Ends the session, and gives its memory back."""
+        with self._turn:
+            self._end()
 
 
 class Reading(NamedTuple):

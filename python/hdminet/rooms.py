@@ -4,13 +4,15 @@ from __future__ import annotations
 
 import subprocess
 from types import TracebackType
-from typing import Any, Iterator, List, NamedTuple, Optional, Type
+from typing import Any, Iterator, List, NamedTuple, Optional, Type, Union
 
 from . import calls, homes
 from .reports import Refused
 
 # The lines of a session that are none of its script.
 _OWN = ("run", "wait", "show", "edge", "edges")
+# What is said where a session is asked after its end.
+_OVER = "the session is over"
 
 
 class Edge(NamedTuple):
@@ -37,8 +39,68 @@ class Answered(NamedTuple):
     is_idle: bool
 
 
+class _OfProgram:
+    """A session of `hdminet live`, of a program."""
+
+    def __init__(self, topology: bytes, program: str) -> None:
+        # A topology at fault is refused here, and not at the first line.
+        calls.emulate(topology, "end 1\n")
+        self._live = subprocess.Popen([program, "live"], stdin=subprocess.PIPE, stdout=subprocess.PIPE, stderr=subprocess.PIPE)
+        self._send(topology + (b"" if topology.endswith(b"\n") else b"\n") + b"script\n")
+
+    def _send(self, text: bytes) -> None:
+        try:
+            assert self._live.stdin is not None
+            self._live.stdin.write(text)
+            self._live.stdin.flush()
+        except (OSError, ValueError):
+            raise self._over() from None
+
+    def _over(self) -> Refused:
+        """Why the session is over."""
+        fault = b"" if self._live.stderr is None or self._live.stderr.closed else self._live.communicate()[1]
+        return Refused(fault.decode("latin-1").removeprefix("hdminet: ") or _OVER)
+
+    def answer(self, line: bytes) -> List[str]:
+        self._send(line + b"\n")
+        assert self._live.stdout is not None
+        told: List[str] = []
+        while not told or told[-1][:1] not in ("=", "!"):
+            got = self._live.stdout.readline().decode("latin-1")
+            if not got:
+                raise self._over()
+            told.append(got.rstrip("\n"))
+        return told
+
+    def close(self) -> None:
+        if self._live.poll() is None:
+            self._live.kill()
+        self._live.communicate()
+
+
+class _OfLibrary:
+    """A session of the library."""
+
+    def __init__(self, topology: bytes) -> None:
+        self._session = calls.Session(topology)
+        # As in `hdminet live` it comes before the first answer.
+        self._first = self._session.first
+
+    def answer(self, line: bytes) -> List[str]:
+        try:
+            told = self._session.answer(line)
+        except calls.Error as error:
+            raise Refused(_OVER) if error.code == calls.CLOSED else error
+        told, self._first = self._first + told, ""
+        return told.split("\n")[:-1]
+
+    def close(self) -> None:
+        self._session.close()
+
+
 class Room:
-    """A room with this topology, before its first microsecond: `hdminet live`, of the program that stands beside this module or that is named.
+    """A room with this topology, before its first microsecond: a session in the library, or in a program that is named, or that stands
+    beside this module where the library has no sessions.
 
         with Room(topology) as room:
             room.press(1_000_000, "p1", "play")
@@ -54,52 +116,34 @@ class Room:
         self.trace: List[str] = []
         self.script: List[str] = []
         self.horizon = 0
-        # A topology at fault is refused here, and not at the first line.
-        calls.emulate(topology, "end 1\n")
         text = calls.text_bytes("topology", topology)
-        self._live = subprocess.Popen([program or homes.program(), "live"], stdin=subprocess.PIPE, stdout=subprocess.PIPE, stderr=subprocess.PIPE)
-        self._send(text + (b"" if text.endswith(b"\n") else b"\n") + b"script\n")
+        self._live: Union[_OfLibrary, _OfProgram]
+        if program is None and calls.has_sessions():
+            self._live = _OfLibrary(text)
+        else:
+            self._live = _OfProgram(text, program or homes.program())
 
-    def _send(self, text: bytes) -> None:
-        try:
-            assert self._live.stdin is not None
-            self._live.stdin.write(text)
-            self._live.stdin.flush()
-        except OSError:
-            raise self._over() from None
-
-    def _over(self) -> Refused:
-        """Why the session is over."""
-        _, fault = self._live.communicate()
-        return Refused(fault.decode("latin-1").removeprefix("hdminet: ") or "the session is over")
-
-    def _answered(self, line: str) -> Answered:
-        assert self._live.stdout is not None
+    def _answered(self, line: str, got: List[str]) -> Answered:
         edges, told = [], []
-        while True:
-            got = self._live.stdout.readline().decode("latin-1").rstrip("\n")
-            if not got:
-                raise self._over()
-            words = got.split(" ")
-            if words[0] in "=!":
-                break
+        for one in got[:-1]:
+            words = one.split(" ")
             if words[0] == "~":
                 edges.append(Edge(int(words[1]), int(words[2])))
             else:
-                told.append(got)
+                told.append(one)
+        words = got[-1].split(" ")
         self.trace += told
         self.script.append("" if words[0] == "!" or line.split(" ")[0] in _OWN else line)
         if words[0] == "!":
             raise LineRefused(int(words[1]), " ".join(words[2:]), line)
         if words[1].isdecimal():
             self.horizon = int(words[1])
-        return Answered(edges, told, got, words[-1] == "idle")
+        return Answered(edges, told, got[-1], words[-1] == "idle")
 
     @calls.taking
     def ask(self, line: Any) -> Answered:
         """Sends a line of a session. Returns what was told for it."""
-        self._send(line + b"\n")
-        return self._answered(line.decode("latin-1"))
+        return self._answered(line.decode("latin-1"), self._live.answer(line))
 
     @calls.taking
     def press(self, time: int, name: str, key: str) -> None:
@@ -183,9 +227,7 @@ class Room:
 
     def close(self) -> None:
         """Ends the session."""
-        if self._live.poll() is None:
-            self._live.kill()
-        self._live.communicate()
+        self._live.close()
 
     def __enter__(self) -> "Room":
         return self

@@ -1,15 +1,10 @@
 """Expectations of captures and their report: a plain model."""
-import audit
 import expectations
-import objects
 import patterns
 import wire
-from expectations import MOST, ORDER, escaped, fits, parse_expectation, parted
+from expectations import MOST, ORDER, escaped, is_pattern, is_remark_called, parse_expectation, parted, remarks_met, remarks_of
 from net import Fault
 from wire import lines_of, number, skipped
-
-KINDS = [kind.encode() for kind, _, remark, _ in objects.AUDIT if remark]
-
 
 def parts(data):
     """the expectations and the capture, before and after the first line `capture`"""
@@ -21,20 +16,20 @@ def parts(data):
 
 
 def wanted(line):
-    """what a line expects of remarks: None where it speaks of none, and else a pattern, or the word no-remark as a text"""
+    """what a line expects of remarks: None where it speaks of none, and else whether there is to be one, and a pattern or None"""
     words = line.split(b' ')
     if words[0] != b'expect' or words[1:2] not in ([b'no-remark'], [b'remark']):
         return None
-    return 'no-remark' if words[1] == b'no-remark' else b' '.join(words[2:])
+    return words[1] == b'remark', b' '.join(words[2:]) if line != b'expect no-remark' else None
 
 
 def wanted_fault(line):
-    pattern = wanted(line)
-    if pattern == 'no-remark':
-        return [] if line == b'expect no-remark' else ['word']
-    if not 1 <= len(pattern) <= expectations.MOST_PATTERN or pattern.count(b'*') > expectations.MOST_STARS or pattern.strip(b' ') != pattern:
+    pattern = wanted(line)[1]
+    if pattern is None:
+        return []
+    if not is_pattern(pattern):
         return ['word']
-    return [] if any(fits(pattern.split(b' ')[0], kind) for kind in KINDS) else ['pattern']
+    return [] if is_remark_called(pattern) else ['pattern']
 
 
 # the words with which an event of a script begins after its time
@@ -54,7 +49,7 @@ def expected(text):
             causes = wanted_fault(line)
             remarks.append((n, line))
         elif verb == b'expect':
-            it = parse_expectation(n, line, label, body, {}, 0) if body.split(b' ')[1:2] not in ([b'refused'], [b'state']) else ['word']
+            it = parse_expectation(n, line, label, body, {}, 0) if body.split(b' ')[1:2] not in ([b'refused'], [b'state'], [b'no-remark']) else ['word']
             if isinstance(it, list):
                 causes, it = it, None
             else:
@@ -84,18 +79,11 @@ def expected(text):
     return found, labels, instants, remarks
 
 
-def remarks_of(data):
-    """(kind, line) of each remark of the capture's audit"""
-    lines = audit.audit(data, False)[1].decode().splitlines()
-    told = [(objects.audit_told_of(line), line.encode()) for line in lines]
-    return [(it['remark'].encode(), line) for it, line in told if it['type'] == 'remark']
-
-
-def holds(pattern, remarks):
-    if pattern == 'no-remark':
-        return not remarks
-    first, _, rest = pattern.partition(b' ')
-    return any(fits(first, kind) and (not rest or fits(rest, line[2:])) for kind, line in remarks)
+def judged(want, remarks):
+    """whether the remarks are as a line wants them, and those that are shown where they are not"""
+    is_wanted, pattern = want
+    met = remarks_met(pattern, remarks)
+    return bool(met) == is_wanted, (remarks_met(None, remarks) if is_wanted else met)[:expectations.SHOWN]
 
 
 def check(data):
@@ -113,7 +101,7 @@ def check(data):
     judge.rounds = [(int(line.split(b' ')[0]), int(line.split(b' ')[1]), line) for line in lines_of(readings)]
     remarks = remarks_of(capture) if wants else []
     tests = [(it.number, it.text, *judge.judge(it)) for it in found]
-    tests += [(n, line, holds(wanted(line), remarks), [line for _, line in remarks[:expectations.SHOWN]]) for n, line in wants]
+    tests += [(n, line, *judged(wanted(line), remarks)) for n, line in wants]
     out = [b'TAP version 13']
     for n, (line, what, right, below) in enumerate(tests, 1):
         out.append(b'%sok %d - line %d: %s' % (b'' if right else b'not ', n, line, escaped(what)))

@@ -895,8 +895,8 @@ def near_pattern(r, line):
 def said(r):
     """what the line of a round may say, whoever sends"""
     if r.random() < .15:
-        ending = r.choice(['short', 'silent', 'bad-start', 'long'])
-        text = ending + ' ' + (''.join(r.choice('01') for _ in range(r.randrange(1, 20))) if ending != 'bad-start' and r.random() < .7 else '-')
+        ending, fewest, most = r.choice(patterns.ENDINGS[:-1])
+        text = '%s %s' % (ending, patterns.some_bits(r, r.choice([fewest, most, min(most, fewest + r.randrange(20))])) or '-')
     else:
         frame = gen_frame(r)
         text = '%s %s' % (frame, r.choice(['ok', 'refused'] if frame[2] == 'f' else ['ack', 'nack']))
@@ -950,6 +950,10 @@ def with_names(r, body, trace):
     return re.sub(r' ([0-9a-f*])>([0-9a-f*])(?= |$)', lambda m: ' %s>%s' % (name(m[1]), name(m[2])), body, count=1)
 
 
+def gen_unremarked(r):
+    return 'expect no-remark' + r.choice(['', ' ' + r.choice(expectations.KINDS).decode(), ' *-answer', ' bit-*', ' fre', ' '])
+
+
 def gen_count(r):
     """how often a round is expected"""
     return r.choice(['', '', '', 'none ', 'once '] + [words + ' %d ' % r.choice([0, 1, 1, 2, 2, 3, 5, 9]) for words in ('exactly', 'at most', 'at least')])
@@ -979,6 +983,8 @@ def gen_expect(r):
             body = with_names(r, body, trace)
         elif r.random() < .15:
             body = gen_state(r, trace, end)
+        elif r.random() < .05:
+            body = gen_unremarked(r)
         if r.random() < .3:
             label = 'e%d' % len(labels)
             body = 'label %s %s' % (label, body)
@@ -1082,9 +1088,9 @@ def gen_capture(r):
             labels.append(('a%d' % len(labels), max(0, begin + r.choice([0, 0, -1, 1, -50000]))))
             out.append('label %s at %d' % labels[-1])
         elif k < .35:
-            out.append('expect no-remark')
+            out.append(gen_unremarked(r))
         elif k < .6:
-            kind, line = r.choice(remarks) if remarks and r.random() < .9 else (r.choice(captures.KINDS), b'  no answer to 4>0 8f of 5')
+            kind, line = r.choice(remarks) if remarks and r.random() < .9 else (r.choice(expectations.KINDS), b'  no answer to 4>0 8f of 5')
             words = [kind.decode()] + line.decode()[2:].split(' ')
             words = words[:r.choice([1, 1, len(words), r.randrange(1, len(words) + 1)])]
             for _ in range(r.choice([0, 0, 1, 2])):

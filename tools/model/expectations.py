@@ -1,5 +1,8 @@
 """Expectations of scripts and their report: a plain model."""
 import re
+import audit
+import net
+import objects
 import patterns
 from net import Fault, Run, load, parse_script, parse_topology, parts
 from wire import T_LIMIT, lines_of, number, skipped
@@ -15,6 +18,7 @@ STATE_WORD = re.compile(rb'|'.join((
 STATE_NUMBER = re.compile(rb'(volume|sel|queue|dropped)=(0|[1-9][0-9]*|-)')
 MOST_OF = {b'volume': 100, b'sel': 15, b'queue': 16, b'dropped': 2 ** 64 - 1}
 SHOWN = 8
+KINDS = [kind.encode() for kind, _, remark, _ in objects.AUDIT if remark]
 MOST_PATTERN = 160
 MOST_STARS = 4
 MOST = 2 ** 64 - 1
@@ -68,6 +72,30 @@ def count_in(words):
     return 0, lambda count: count > 0, False
 
 
+def is_pattern(text):
+    return 1 <= len(text) <= MOST_PATTERN and text.count(b'*') <= MOST_STARS and text.strip(b' ') == text
+
+
+def is_remark_called(pattern):
+    """whether the first word is met by what some kind of remarks is called"""
+    return any(fits(pattern.split(b' ')[0], kind) for kind in KINDS)
+
+
+def remarks_of(edges):
+    """(kind, line) of each remark of the audit of an edge file"""
+    lines = audit.audit(edges, False)[1].decode().splitlines()
+    told = [(objects.audit_told_of(line), line.encode()) for line in lines]
+    return [(it['remark'].encode(), line) for it, line in told if it['type'] == 'remark']
+
+
+def remarks_met(pattern, remarks):
+    """the lines of the remarks that meet a pattern, or without one of all"""
+    if pattern is None:
+        return [line for _, line in remarks]
+    first, _, rest = pattern.partition(b' ')
+    return [line for kind, line in remarks if fits(first, kind) and (not rest or fits(rest, line[2:]))]
+
+
 def parse_expectation(n, text, label, body, names, end):
     """the expectation; a list of causes at fault where it is at fault"""
     words = body.split(b' ')
@@ -92,10 +120,13 @@ def parse_expectation(n, text, label, body, names, end):
         if it.at is not None and it.at > end:
             causes.append('order')
         return causes or it
+    if words[1:2] == [b'no-remark']:
+        it.kind, it.pattern = 'unremarked', b' '.join(words[2:]) if len(words) > 2 else None
+        return it if it.pattern is None or is_pattern(it.pattern) else ['word']
     counts, it.allows, uncounted = count_in(words[1:])
     place = counts + 1
     window, pattern = words[place:place + 4], b' '.join(words[place + 4:])
-    if len(window) < 4 or not 1 <= len(pattern) <= MOST_PATTERN or pattern.count(b'*') > MOST_STARS or pattern.strip(b' ') != pattern:
+    if len(window) < 4 or not is_pattern(pattern):
         return ['word']
     it.pattern = pattern
     strange = any(name.decode('latin1') not in names for name in patterns.names_in(pattern))
@@ -146,7 +177,7 @@ def expectations(script, names, end):
                     causes.append('label')
             elif it.kind == 'rounds' and it.of is not None and it.of not in labels:
                 causes.append('label')
-            if it and (it.kind == 'rounds' and not patterns.is_met(it.pattern, list(names)) or it.kind == 'refused' and it.word not in patterns.REFUSALS
+            if it and (it.kind == 'rounds' and not patterns.is_met(it.pattern, list(names)) or it.kind == 'refused' and it.word not in patterns.REFUSALS or it.kind == 'unremarked' and it.pattern and not is_remark_called(it.pattern)
                     or it.kind == 'state' and not all(map(is_state_word, it.words))):
                 causes.append('pattern')
         if causes:
@@ -191,7 +222,9 @@ def escaped(text):
 
 
 class Judge:
-    def __init__(self, trace, state_at, labels, onsets):
+    def __init__(self, trace, state_at, labels, onsets, remarks=lambda: []):
+        """`remarks` gives those of the audit of the run's line"""
+        self.remarks = remarks
         self.rounds = [(int(line.split(b' ')[0]), int(line.split(b' ')[1]), line) for line in trace if ROUND.match(line)]
         events = [EVENT.fullmatch(line) for line in trace]
         self.events = {int(m[2]): (int(m[1]), m[4]) for m in events if m}
@@ -214,6 +247,9 @@ class Judge:
         if it.kind == 'state':
             line = self.state_at(it.at, it.device)
             return all((word in line.split(b' ')[2:]) != it.absent for word in it.words), [line]
+        if it.kind == 'unremarked':
+            met = remarks_met(it.pattern, self.remarks())
+            return not met, met[:SHOWN]
         window = self.window(it)
         if window is None:
             return False, [b'no instant']
@@ -255,7 +291,7 @@ def check(data):
         if at not in states:
             states[at] = trace_of(topology, plain, at)[1]
         return states[at][names[device.decode()]]
-    judge = Judge(trace, state_at, labels, onsets)
+    judge = Judge(trace, state_at, labels, onsets, lambda: remarks_of(net.run(topology + b'script\n' + plain, True)[1]))
     out = [b'TAP version 13']
     failed = n = 0
     for it in found:

@@ -7,7 +7,9 @@ HEX = DIGITS | frozenset(b'abcdef')
 LETTERS = frozenset(range(97, 123))
 QUOTABLE = frozenset(range(32, 127)) - {34}
 STAR, SPACE = 42, 32
-ENDINGS = ('short', 'silent', 'bad-start', 'long', 'open')
+# each ending with the fewest and the most bits of a reading that ends so
+ENDINGS = (('short', 0, 159), ('silent', 1, 159), ('bad-start', 0, 0), ('long', 160, 160), ('open', 0, 159))
+BLOCK, EOM = 10, 8
 REFUSALS = (b'port-range', b'port-taken', b'not-loose', b'loop', b'not-plugged', b'not-for-kind', b'off-wire', b'queue-full', b'own-address', b'no-address')
 
 
@@ -33,14 +35,6 @@ class Places:
             elif self.pattern[place] == STAR: after |= {place} if allowed - {SPACE} else set()
             elif self.pattern[place] in allowed: after.add(place + 1)
         return Places(self.pattern, after)
-
-    def many(self, allowed):
-        """after any number of them"""
-        now = self
-        while True:
-            after = Places(self.pattern, now.places | now.one(allowed).places)
-            if after.places == now.places: return now
-            now = after
 
     def text(self, text):
         now = self
@@ -142,6 +136,20 @@ def stopped(at):
     return slots[0].any(*slots[1:])
 
 
+def shown(at, fewest, most):
+    """after so many bits, or a dash for none: of those that end a block each is 0, but for one that is the last bit"""
+    ends = [] if fewest else [at.text('-')]
+    for n in range(1, most + 1):
+        last, at = at.one(frozenset(b'01')), at.one(frozenset(b'0' if (n - 1) % BLOCK == EOM else b'01'))
+        if n >= fewest: ends.append(last)
+    return ends
+
+
+def some_bits(rng, count):
+    """the digits of so many bits that a reading can show"""
+    return ''.join('0' if n % BLOCK == EOM and n + 1 < count else rng.choice('01') for n in range(count))
+
+
 NAME = re.compile(rb'([^ @]*)@([^ >]*)(.*)', re.S)
 
 
@@ -161,20 +169,22 @@ def with_addresses(pattern, addresses, most=2):
     return [p for a in addresses(m[2]) for p in with_addresses(m[1] + b'%x' % a + m[3], addresses, most - 1)]
 
 
-def is_met(pattern, names=None):
-    """whether the line of some round meets it, in a run of these devices, or else in a capture; all addresses below 15 are alike"""
+def lines(pattern, names=None):
+    """after each line of a round in a run of these devices, or else of a reading of a capture; all addresses below 15 are alike"""
     start = Places(with_addresses(pattern, lambda name: [0])[0])
     said = []
-    for ending in ENDINGS if names is None else ENDINGS[:-1]:
-        at = start.text(ending + ' ')
-        said.append(at.text('-'))
-        if ending != 'bad-start': said.append(at.one(frozenset(b'01')).many(frozenset(b'01')))
+    for ending, fewest, most in ENDINGS if names is None else ENDINGS[:-1]:
+        said += shown(start.text(ending + ' '), fewest, most)
     for last, verdicts in ((HEX - {102}, ('ack', 'nack')), (frozenset([102]), ('ok', 'refused'))):
         header = start.one(HEX).text('>').one(last)
         for at in [header] + [opcode(header, code) for code in range(256) if header.places]:
             said += [at.text(' ' + verdict) for verdict in verdicts if at.places]
     said = [at for at in said if at.places]
-    if names is None: return any(at.ends() for at in said)
-    if not said: return False
+    if names is None or not said: return said
     by = listed(said[0].any(*said[1:]).text(' by '), names, lambda at: at)
-    return listed(by.text(' out '), names, stopped).ends()
+    return [listed(by.text(' out '), names, stopped)]
+
+
+def is_met(pattern, names=None):
+    """whether some such line meets it"""
+    return any(at.ends() for at in lines(pattern, names))

@@ -1,3 +1,4 @@
 pub mod First
-pub mod Shown
+pub mod Unasked
 pub mod Stateless
+pub mod Alike

@@ -3,7 +3,7 @@ use Rattle.std.specs.Prelude.{◌≡◌, ℕ, ◌<◌, Bool, true, false, List, 
 use Rattle.std.specs.Io.KnownBytes.{Appends}
 use Rattle.capture_core.specs.Edges.{Captured}
 use Rattle.expect_run.specs.Check.{tally_of}
-use Rattle.audit_core.specs.Audit.{audit_text}
+use Rattle.expect_remarks.specs.Kept.{audit_remarks}
 use Rattle.expect_run.specs.Report.{Report, report_with_plan, tests}
 use Rattle.expect_run.specs.declared.checking.Tally.{Tally}
 use Rattle.audit_expect.specs.Faults.{first_fault}
@@ -19,7 +19,7 @@ reading_tests text capture = tests text (capture_trace text capture) (no_states 
 
 -- the report of expectations: after those of readings stand those of the remarks of the capture's audit
 abbrev pub capture_report : List ℕ → Captured → Report
-capture_report text capture = report_with_plan (with_wanted_lines (lines_of (audit_text false capture)) (reading_tests (plain_text text) capture) 1 (lines_of text))
+capture_report text capture = report_with_plan (with_wanted_lines (audit_remarks capture) (reading_tests (plain_text text) capture) 1 (lines_of text))
 
 -- no line is at fault, and the report is written
 pub record IsCaptureChecked (text : List ℕ) (capture : Captured) (old new : Option (List ℕ)) (tally : Tally) : Type 0 where

@@ -3,3 +3,4 @@ pub mod Wanted
 pub mod Faults
 pub mod Marks
 pub mod Check
+pub mod Alike

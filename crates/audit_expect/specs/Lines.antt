@@ -66,9 +66,12 @@ abbrev pub instant_fault : Option (List ℕ) → List (List ℕ) → Option (AtW
 instant_fault None words = event_fault words
 instant_fault (Some label) words = named_fault words
 
--- a capture reports neither refusals nor states
+-- a capture reports neither refusals nor states; what its audit says has no instant, and so no label
+abbrev pub is_of_run : List (List ℕ) → Bool
+is_of_run words = has_verb (codes "refused") words || has_verb (codes "state") words || has_verb (codes "no-remark") words
+
 abbrev pub expectation_fault : List (List ℕ) → Option (AtWord ExpectCause)
-expectation_fault words = if has_verb (codes "refused") words || has_verb (codes "state") words then Some (at_word 1 Word) else None
+expectation_fault words = if is_of_run words then Some (at_word 1 Word) else None
 
 -- no line begins so, or none after a label; a lone `label` has no name
 abbrev pub verb_fault : Option (List ℕ) → List ℕ → AtWord ExpectCause

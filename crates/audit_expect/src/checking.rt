@@ -75,7 +75,7 @@ fn report_of(
 /// Writes the report of whether the readings of a capture are as the expectations have it, as `check` writes that of a run. The
 /// lines of the expectations are those of a script, with `label NAME at T` in place of events: it names an instant. After them stand
 /// the tests of the remarks of its audit, `expect no-remark` and `expect remark PATTERN`. The report, the lines of the readings and,
-/// where remarks are spoken of, the audit are held in memory.
+/// where they are spoken of, the remarks are held in memory.
 ///
 /// # Errors
 ///

@@ -1,11 +1,10 @@
 //! Lines of expectations of a capture, and the first one at fault.
-ghost use Rattle.std.specs.Prelude.{◌≡◌, ◌||◌, IfOk, codes};
+ghost use Rattle.std.specs.Prelude.{◌≡◌, IfOk};
 ghost use Rattle.std.specs.Option.{option_copied, option_map};
 ghost use Rattle.text_core.specs.Lines.{lines_of};
 ghost use Rattle.text_core.specs.Words.{words_after};
 ghost use Rattle.expect_text.specs.Fault.{after_label};
-ghost use Rattle.expect_text.specs.Line.{has_verb};
-ghost use Rattle.audit_expect.specs.Lines.{event_fault, expectation_fault, instant_fault, instant_of, is_event_word, is_passed, kind_fault, line_fault, named_fault, number_by, time_fault, time_word, verb_fault};
+ghost use Rattle.audit_expect.specs.Lines.{event_fault, expectation_fault, instant_fault, instant_of, is_event_word, is_of_run, is_passed, kind_fault, line_fault, named_fault, number_by, time_fault, time_word, verb_fault};
 ghost use Rattle.audit_expect.specs.Wanted.{plain_text};
 ghost use Rattle.audit_expect.specs.Faults.{earlier, first_fault, kinds_from, readings_fault};
 
@@ -117,11 +116,11 @@ fn instant_fault(label: Option<&[u8]>, rest: Option<&[u8]>) -> Option<AtWord<Exp
     }
 }
 
-// Whether an expectation is none of a capture.
+// Whether an expectation is none of a capture, or none behind a label.
 fn is_of_run(rest: Option<&[u8]>) -> bool
-    ensures { result ≡ (has_verb (codes "refused") (words_after (option_copied rest.entry)) || has_verb (codes "state") (words_after (option_copied rest.entry))) }
+    ensures { result ≡ is_of_run (words_after (option_copied rest.entry)) }
 {
-    has_verb(b"refused", rest) || has_verb(b"state", rest)
+    has_verb(b"refused", rest) || has_verb(b"state", rest) || has_verb(b"no-remark", rest)
 }
 
 fn expectation_fault(label: Option<&[u8]>, rest: Option<&[u8]>) -> Option<AtWord<ExpectCause>>

@@ -3,8 +3,10 @@
 
 mod checking;
 mod faults;
+mod laws;
 mod marks;
 mod remarks;
 mod wanted;
 
 pub use checking::{CaptureCheckError, check_capture};
+pub use laws::no_remark_is_judged_alike;

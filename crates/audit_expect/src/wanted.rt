@@ -2,10 +2,9 @@
 ghost use Rattle.std.specs.Prelude.{◌≡◌, ◌++◌, codes, is_some, IfOk, OnOk};
 ghost use Rattle.std.specs.Option.{option_map};
 ghost use Rattle.text_core.specs.Lines.{lines_of};
-ghost use Rattle.audit_expect.specs.Wanted.{is_any_wanted, is_called, lone_fault, pattern_fault, plain_line, plain_text, remark_kinds, wanted_as, wanted_by, wanted_fault, wanted_faults, wanted_of};
+ghost use Rattle.audit_expect.specs.Wanted.{is_any_wanted, pattern_fault, plain_line, plain_text, unremarked_fault, wanted_as, wanted_by, wanted_fault, wanted_faults, wanted_of};
 
-use audit_lines::AuditLine;
-use expect_text::{ExpectCause, fits, is_pattern};
+use expect_text::{ExpectCause, is_pattern, is_remark_called};
 use json_trace::{after_word, word};
 use std::alloc::{AllocError, Global};
 use text_core::{At, AtWord, at_word, first_line};
@@ -13,34 +12,17 @@ use text_core::{At, AtWord, at_word, first_line};
 /// What a line expects of the remarks of an audit.
 #[derive(Clone, Copy, Debug)]
 pub(crate) enum WantedRemarks<'a> {
-    /// That there is none.
-    NoRemark,
+    /// That no remark meets a pattern; where it is empty, that there is none.
+    NoRemark(&'a [u8]),
     /// That some remark meets a pattern.
     Remark(&'a [u8]),
 }
-
-/// The kinds of remarks.
-const REMARKS: &[AuditLine] = &[
-    AuditLine::NoAnswer,
-    AuditLine::LateAnswer,
-    AuditLine::Free,
-    AuditLine::StartLow,
-    AuditLine::StartTotal,
-    AuditLine::BitLow,
-    AuditLine::BitTotal,
-    AuditLine::LowDrive,
-    AuditLine::DriveWithin,
-    AuditLine::Unfinished,
-    AuditLine::LastAttempt,
-    AuditLine::Receivers,
-    AuditLine::Operands,
-];
 
 fn wanted_by<'a>(how: &[u8], rest: &'a [u8]) -> Option<WantedRemarks<'a>>
     ensures { option_map wanted_as result ≡ wanted_by how.now rest.now }
 {
     if how == b"no-remark".as_slice() {
-        Some(WantedRemarks::NoRemark)
+        Some(WantedRemarks::NoRemark(rest))
     } else if how == b"remark".as_slice() {
         Some(WantedRemarks::Remark(rest))
     } else {
@@ -119,27 +101,6 @@ pub(crate) fn plain_text(alloc: Global, text: &[u8]) -> Result<Vec<u8>, AllocErr
 
 // ---- faults
 
-// Whether one of these kinds is called so.
-fn is_called(pattern: &[u8], kinds: &[AuditLine]) -> bool
-    ensures { result ≡ is_called pattern.now kinds.now }
-{
-    let mut rest = kinds;
-    'kinds: while let [kind, others @ ..] = rest {
-        if fits(pattern, kind.name().as_bytes()) {
-            return true;
-        }
-        rest = others;
-    }
-    false
-}
-
-// Whether some kind of remarks is called so.
-fn is_remark_called(pattern: &[u8]) -> bool
-    ensures { result ≡ is_called pattern.now remark_kinds }
-{
-    is_called(pattern, REMARKS)
-}
-
 fn pattern_fault(pattern: &[u8]) -> Option<AtWord<ExpectCause>>
     ensures { result ≡ pattern_fault pattern.now }
 {
@@ -147,21 +108,21 @@ fn pattern_fault(pattern: &[u8]) -> Option<AtWord<ExpectCause>>
         Some(at_word(2, ExpectCause::Word))
     } else if !is_pattern(pattern) {
         Some(at_word(2, ExpectCause::Pattern))
-    } else if is_remark_called(word(pattern)) {
+    } else if is_remark_called(pattern) {
         None
     } else {
         Some(at_word(2, ExpectCause::Unmet))
     }
 }
 
-// Whether nothing stands after `no-remark`.
-fn lone_fault(line: &[u8]) -> Option<AtWord<ExpectCause>>
-    ensures { result ≡ lone_fault line.now }
+// Whether nothing or a pattern stands after `no-remark`.
+fn unremarked_fault(line: &[u8], pattern: &[u8]) -> Option<AtWord<ExpectCause>>
+    ensures { result ≡ unremarked_fault line.now pattern.now }
 {
     if line == b"expect no-remark".as_slice() {
         None
     } else {
-        Some(at_word(2, ExpectCause::Word))
+        pattern_fault(pattern)
     }
 }
 
@@ -171,7 +132,7 @@ fn wanted_fault(line: &[u8]) -> Option<AtWord<ExpectCause>>
     match wanted_of(line) {
         None => None,
         Some(wanted) => match wanted {
-            WantedRemarks::NoRemark => lone_fault(line),
+            WantedRemarks::NoRemark(pattern) => unremarked_fault(line, pattern),
             WantedRemarks::Remark(pattern) => pattern_fault(pattern),
         },
     }

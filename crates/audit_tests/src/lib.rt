@@ -6,8 +6,6 @@ mod audits;
 #[cfg(test)]
 mod captures;
 #[cfg(test)]
-mod kinds;
-#[cfg(test)]
 mod margins;
 #[cfg(test)]
 mod objects;

@@ -150,6 +150,7 @@ fn add_check<'a>(alloc: Global, program: Command<'a>) -> Result<Command<'a>, All
 // Adds the command that steps through a run.
 fn add_step<'a>(alloc: Global, program: Command<'a>) -> Result<Command<'a>, AllocError> {
     let step = plain_command(alloc, "step", help::STEP_ABOUT, help::STEP_HELP);
+    let step = with_flags(alloc, step, help::STEP_FLAGS)?;
     program.subcommand(step.arg(one_file(alloc))?)
 }
 

@@ -264,6 +264,8 @@ The input is that of `hdminet run`, and its script may also have labels and expe
   expect state T NAME not WORD ..        or none of them
   expect refused NAME WORD               the event of this label is refused with the word
   expect refused WORD                    or that of the line above
+  expect no-remark                       the audit of mon --audit has no remark of the run's line
+  expect no-remark PATTERN               or none of this kind: its word as of mon --audit --json, and what it says
 A pattern is met by a round whose line in the trace begins with it after its two times, without the word
 complete, up to the end of a word; `*` stands for any part of one word. A round is in a window where it
 begins and ends in it. The instant of a label is that at which its event was applied, the onset of its
@@ -321,9 +323,10 @@ With --capture the input is expectations, a line `capture`, and a capture in any
 reads, of which they are to hold. Here `label NAME at T` names an instant, and the other lines are
 expectations of rounds; a round says what its reading says in the lines of mon --from-start. Lines that
 are empty or begin with `#` are skipped. Two more speak of the audit that mon --audit writes:
-  expect no-remark                       it has no remark
-  expect remark PATTERN                  it has one: its kind as of mon --audit --json, and what it says
-Their tests stand after the others; below one that fails stand the first eight remarks:
+  expect no-remark, expect no-remark PATTERN    as of a run
+  expect remark PATTERN                  it has one
+Their tests stand after the others; below one that fails stand the first eight remarks, of `no-remark`
+those that meet it:
   (cat film.expect; echo capture; cat film.vcd) | hdminet check --capture --glitch 50
 
 With --json each line of the report is an object of JSON.
@@ -350,6 +353,12 @@ fault, or input past 1048576 bytes; 4 no memory.";
 
 pub const STEP_ABOUT: &str = "Takes a run step by step, edge by edge or round by round";
 
+/// The flags of `step`, each with its help.
+pub const STEP_FLAGS: &[(&str, &str)] = &[(
+    "json",
+    "Prints each line as an object of JSON: the line itself, and what it says",
+)];
+
 pub const STEP_HELP: &str = "\
 The input is that of `hdminet run`, and after its `end` line a line `steps` and the steps, one a
 line. Lines that are empty or begin with `#` are skipped.
@@ -370,6 +379,10 @@ The line of an edge is `T low` or `T high`, and then ` NAME=STANDING` for each d
   start-low, start-high   in the start bit, before and after its rise
   slot:K:BITS             in slot K, with the bits sampled so far, `-` for none
   wait-high               after an ending, the line still low
+
+With --json each line is an object, as of `hdminet run --json`, in which it stands as `line`. That of
+an edge has the type `edge`, with `at`, `level` and `devices`, a list of `device`, `position`, `slot`
+and `bits`; that of `ended` the type `ended`.
 
 An example, and what it gives:
   device tv tv 1
@@ -506,7 +519,7 @@ pub const MON_VALUES: &[(&str, &str, &str)] = &[
 
 pub const MON_RULES: &str = "
   --signal goes with vcd and csv alone; of --from-start and --from-idle one is given at most, and neither
-  with --audit and --timing; --strict goes with one of these two; --fold does not go with --json
+  with --audit and --timing; --strict goes with one of these two
   --follow goes with --from edges, pin or csv, and else with --signal, --margin, --from-start, --audit and
   --timing alone
 ";
@@ -678,7 +691,7 @@ pub const EDID_HELP: &str = "\
 The input is an EDID of 128, 256, 384 or 512 bytes: a base block of E-EDID 1.3 or 1.4, and up to
 three extension blocks. The output is its text, a line for each part. With --text it is the other
 way round. Each EDID has one text, and nothing of a block is lost: a part that fits no form is kept
-in hex, after `raw` or `ext`.
+in hex, after `raw` or `ext`. A FILE may hold the bytes, a hex dump or the text: its first bytes say which.
 
 An example of a text. There are always eight `standard` lines, and four lines for the descriptors:
   edid 1.3
@@ -742,9 +755,10 @@ With --check the output is a line for each rule that the EDID breaks, `fail RULE
 With --check --json each is an object of JSON, whose first field is that line; then come its type, finding, and
 its severity, the number of the timing or null, and the rule.
 
-With --json alone the output is an object for each data block, of the type part, and after it one for each of
-its fields: the block of 128 bytes, the byte and the bits where it stands, its name in the standard's words, its
-value, what that says, and what is found of it, null, reserved or left.
+With --json alone the output is an object for each part of the EDID, of the type part, a section, a descriptor,
+a data block or a timing, and after it one for each of its fields: the block of 128 bytes, the byte and the bits
+where it stands, its name in the standard's words, its value, what that says, and what is found of it, null,
+reserved or left.
 
 With --address the EDID has that physical address, and with --port the address of that port of the
 device: the EDID that a device there reads. Below an amplifier it has the amplifier's audio:

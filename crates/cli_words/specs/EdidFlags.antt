@@ -171,7 +171,7 @@ has_objects _ = false
 -- what they ask for
 abbrev pub asked_by_view : EdidFlags → Source → Recipient → Asked
 asked_by_view flags source place = record {
-  choice = Edid source (unwrap_or flags.reading readings.Strict) (edid_view flags.wanted (form_by flags.json) place (own_shape source));
+  choice = Edid (Some source) (unwrap_or flags.reading readings.Strict) (edid_view flags.wanted (form_by flags.json) place (own_shape source));
   explains = flags.explains;
 }
 

@@ -3,7 +3,7 @@ use Rattle.std.specs.Prelude.{ℕ, List, [], ◌∷◌, Option, Some, None, if�
 use Rattle.std.specs.Str.{bytes_eq}
 use Rattle.cli_words.specs.Form.{form_by}
 use Rattle.cli_words.specs.declared.choice.Asked.{Asked}
-use Rattle.cli_words.specs.declared.choice.CommandChoice.TheVariants.{Lay, Live}
+use Rattle.cli_words.specs.declared.choice.CommandChoice.TheVariants.{Lay, Live, Step}
 use Rattle.cli_words.specs.declared.json_flags.JsonFlags.{JsonFlags}
 
 -- the flags with one more; each stands once at most
@@ -19,6 +19,9 @@ json_flags flags [] = Some flags
 json_flags flags (word ∷ words) = option_and_then (λ more. json_flags more words) (one_json_flag flags word)
 
 -- what they ask for
+abbrev pub step_asked : JsonFlags → Asked
+step_asked flags = record { choice = Step (form_by flags.json); explains = flags.explains }
+
 abbrev pub live_asked : JsonFlags → Asked
 live_asked flags = record { choice = Live flags.json; explains = flags.explains }
 

@@ -5,7 +5,7 @@ use Rattle.std.specs.Str.{bytes_eq}
 use Rattle.cli_words.specs.CheckFlags.{check_asked, check_flags}
 use Rattle.cli_words.specs.DisFlags.{dis_asked, dis_flags}
 use Rattle.cli_words.specs.EdidFlags.{edid_asked, edid_flags}
-use Rattle.cli_words.specs.JsonFlags.{json_flags, lay_asked, live_asked}
+use Rattle.cli_words.specs.JsonFlags.{json_flags, lay_asked, live_asked, step_asked}
 use Rattle.cli_words.specs.MonFlags.{mon_asked, mon_flags}
 use Rattle.cli_words.specs.RunFlags.{run_asked, run_flags}
 use Rattle.cli_words.specs.declared.check_flags.CheckFlags.{CheckFlags}
@@ -59,7 +59,7 @@ no_json_flags = record { json = false; explains = false }
 abbrev pub asked_of : Subcommand → List (List ℕ) → Option Asked
 asked_of Run words = option_and_then run_asked (run_flags no_run_flags words)
 asked_of Check words = option_and_then check_asked (check_flags no_check_flags words)
-asked_of Step words = only_explained choices.Step words
+asked_of Step words = option_map step_asked (json_flags no_json_flags words)
 asked_of Live words = option_map live_asked (json_flags no_json_flags words)
 asked_of Asm words = only_explained choices.Asm words
 asked_of Dis words = option_map dis_asked (dis_flags (record { meaning = false; json = false; explains = false }) words)

@@ -3,13 +3,12 @@ use Rattle.std.specs.Prelude.{ℕ, nat_le, List, [], ◌∷◌, Bool, Option, So
 use Rattle.std.specs.Option.{option_map, option_or}
 use Rattle.std.specs.Str.{bytes_eq}
 use Rattle.text_core.specs.Number.{number_of}
+use Rattle.cli_words.specs.Form.{form_by}
 use Rattle.cli_words.specs.Joined.{joined}
 use Rattle.cli_words.specs.Micros.{micros_of}
 use Rattle.cli_words.specs.declared.choice.Asked.{Asked}
 use Rattle.cli_words.specs.declared.choice.CommandChoice.{CommandChoice}
-use Rattle.cli_words.specs.declared.choice.CommandChoice.TheVariants.{Mon, Follow, Json}
-use Rattle.cli_words.specs.declared.choice.MonChoice.{MonChoice}
-use Rattle.cli_words.specs.declared.choice.Objects.TheVariants as objects
+use Rattle.cli_words.specs.declared.choice.CommandChoice.TheVariants.{Mon, Follow}
 use Rattle.capture_forms.specs.declared.form.CaptureForm.{CaptureForm}
 use Rattle.capture_forms.specs.declared.form.CaptureForm.TheVariants.{Edges, Vcd, Pin, Csv}
 use Rattle.follow_core.specs.declared.lines.LineForm.{LineForm}
@@ -99,11 +98,6 @@ mon_report start false timing true = None
 mon_report None true timing strict = Some (Some (Audit timing strict))
 mon_report (Some start) true timing strict = None
 
--- what is done with the capture
-abbrev pub mon_choice : Bool → MonChoice → CommandChoice
-mon_choice true mon = Json (objects.Capture mon.form mon.glitch mon.margin mon.inverted mon.report)
-mon_choice false mon = Mon mon
-
 -- the form of a capture that is read line by line, which is not guessed
 abbrev pub line_form : Option CaptureForm → Option LineForm
 line_form (Some Edges) = Some line_forms.Edges
@@ -130,9 +124,9 @@ follow_choice flags =
     if goes_further flags then None
     else option_and_then (λ form. option_map (λ report. Follow form (unwrap_or flags.margin 0) report) (follow_report flags.start (flags.audit || flags.timing) flags.timing)) (line_form flags.form)
 
--- a value is missing, a wire has no name, or objects are asked for of lines that are folded
+-- a value is missing, or a wire has no name
 abbrev pub is_misfit : MonFlags → Bool
-is_misfit flags = is_some flags.waits || (flags.named && not (has_names flags.form)) || (flags.folded && flags.json)
+is_misfit flags = is_some flags.waits || (flags.named && not (has_names flags.form))
 
 -- what they ask for
 abbrev pub mon_asked : MonFlags → Option Asked
@@ -140,13 +134,14 @@ mon_asked flags =
     if is_misfit flags then None
     else if flags.follows then option_map (λ choice. record { choice = choice; explains = flags.explains }) (follow_choice flags)
     else option_map (λ report. record {
-      choice = mon_choice flags.json (record {
+      choice = Mon (record {
         form = flags.form;
         glitch = unwrap_or flags.glitch 0;
         margin = unwrap_or flags.margin 0;
         inverted = flags.inverted;
         folded = flags.folded;
         report = report;
+        written = form_by flags.json;
       });
       explains = flags.explains;
     }) (mon_report flags.start (flags.audit || flags.timing) flags.timing flags.strict)

@@ -6,7 +6,7 @@ use Rattle.cli_words.specs.declared.choice.Asked.{Asked}
 use Rattle.cli_words.specs.declared.choice.CommandChoice.{CommandChoice}
 use Rattle.cli_words.specs.declared.choice.CommandChoice.TheVariants.{Check, CheckCapture, Edid, Live}
 use Rattle.cli_words.specs.declared.choice.Source.{Source}
-use Rattle.cli_words.specs.declared.choice.Source.TheVariants.{Pair}
+use Rattle.cli_words.specs.declared.choice.Source.TheVariants.{Bytes, Pair}
 use Rattle.cli_words.specs.declared.choice.TestView.{TestView}
 use Rattle.cli_words.specs.declared.choice.TestView.TheVariants.{Report, Progress, Traced, Plain}
 use Rattle.cli_words.specs.declared.operands.Place.{Place}
@@ -91,7 +91,7 @@ is_pair_source (Pair dumps table) = true
 is_pair_source source = false
 
 abbrev pub is_pair : CommandChoice → Bool
-is_pair (Edid source reading view) = is_pair_source source
+is_pair (Edid (Some source) reading view) = is_pair_source source
 is_pair choice = false
 
 abbrev pub is_session : CommandChoice → Bool
@@ -107,9 +107,22 @@ takes choice count = (count == 0) || ((count == 1) && not (is_session choice)) |
 abbrev pub goes_with : CommandChoice → List (List ℕ) → Bool
 goes_with choice operands = takes choice (length operands) && (nat_le (length operands) 1 || not (has_standard_input operands))
 
+-- the first operand is a file, and not standard input
+abbrev pub is_file : List (List ℕ) → Bool
+is_file [] = false
+is_file (operand ∷ operands) = not (bytes_eq operand (codes "-"))
+
+-- what a file is read for: of an EDID's file of which no flag says what it holds, its first bytes do
+abbrev pub of_file : CommandChoice → CommandChoice
+of_file (Edid (Some Bytes) reading view) = Edid None reading view
+of_file choice = choice
+
 -- what words ask for, of these operands
+abbrev pub of_operands : List (List ℕ) → Asked → Asked
+of_operands operands asked = if is_file operands then record asked { choice = of_file asked.choice } else asked
+
 abbrev pub asked_of_operands : List (List ℕ) → Asked → Option Asked
-asked_of_operands operands asked = if goes_with asked.choice operands then Some asked else None
+asked_of_operands operands asked = if goes_with (of_operands operands asked).choice operands then Some (of_operands operands asked) else None
 
 abbrev pub asked_on : List (List ℕ) → List (List ℕ) → Option Asked
 asked_on words operands = option_and_then (asked_of_operands operands) (asked_by words)

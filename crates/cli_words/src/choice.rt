@@ -67,14 +67,6 @@ pub enum Objects {
     Room {
         strict: bool,
     },
-    /// The lines of a capture.
-    Capture {
-        form: Option<CaptureForm>,
-        glitch: u64,
-        margin: u64,
-        inverted: bool,
-        report: Option<CaptureReport>,
-    },
     /// The lines of the report of a test of a run, with its trace after it or without.
     Test {
         traced: bool,
@@ -178,6 +170,8 @@ pub struct MonChoice {
     pub folded: bool,
     /// Where none is given, that is by the form.
     pub report: Option<CaptureReport>,
+    /// Whether its lines are written, or their objects.
+    pub written: Form,
 }
 
 /// What the words of a command line ask for.
@@ -197,7 +191,9 @@ pub enum CommandChoice {
         glitch: u64,
     },
     /// Steps of a run, edge by edge and round by round.
-    Step,
+    Step {
+        form: Form,
+    },
     /// A session: a run whose script comes line by line, each answered as it comes, in lines or, where it is wanted, in objects of
     /// JSON.
     Live {
@@ -222,11 +218,11 @@ pub enum CommandChoice {
         margin: u64,
         report: FollowReport,
     },
-    /// Lines of a run or of a capture, as objects.
+    /// Lines of a run or of a test, as objects.
     Json(Objects),
-    /// An EDID.
+    /// An EDID. Where no flag says what a file holds, its first bytes do.
     Edid {
-        source: Source,
+        source: Option<Source>,
         reading: EdidReading,
         view: View,
     },

@@ -411,7 +411,7 @@ pub fn edid_asked(flags: &EdidFlags) -> Option<Asked>
     let reading = flags.reading.unwrap_or(EdidReading::Strict);
     Some(Asked {
         choice: CommandChoice::Edid {
-            source,
+            source: Some(source),
             reading,
             view,
         },

@@ -1,6 +1,6 @@
 //! The flags of subcommands that have `--json` and `--explain` alone.
 ghost use Rattle.std.specs.Prelude.{◌≡◌, map, string_bytes};
-ghost use Rattle.cli_words.specs.JsonFlags.{json_flags, lay_asked, live_asked, one_json_flag};
+ghost use Rattle.cli_words.specs.JsonFlags.{json_flags, lay_asked, live_asked, one_json_flag, step_asked};
 
 use crate::choice::{Asked, CommandChoice};
 use crate::form::form_by;
@@ -44,6 +44,18 @@ pub fn json_flags(flags: JsonFlags, words: &[String]) -> Option<JsonFlags>
     match words {
         [] => Some(flags),
         [word, rest @ ..] => json_flags(with_json_flag(flags, word.as_str())?, rest),
+    }
+}
+
+/// What `step` with these flags asks for.
+pub fn step_asked(flags: JsonFlags) -> Asked
+    ensures { result ≡ step_asked flags }
+{
+    Asked {
+        choice: CommandChoice::Step {
+            form: form_by(flags.json),
+        },
+        explains: flags.explains,
     }
 }
 

@@ -6,7 +6,7 @@ use crate::check_flags::{CheckFlags, check_asked, check_flags};
 use crate::choice::{Asked, CommandChoice};
 use crate::dis_flags::{DisFlags, dis_asked, dis_flags};
 use crate::edid_flags::{EdidFlags, edid_asked, edid_flags};
-use crate::json_flags::{JsonFlags, json_flags, lay_asked, live_asked};
+use crate::json_flags::{JsonFlags, json_flags, lay_asked, live_asked, step_asked};
 use crate::mon_flags::{MonFlags, mon_asked, mon_flags};
 use crate::run_flags::{RunFlags, run_asked, run_flags};
 use crate::subcommand::{Subcommand, subcommand_of};
@@ -35,7 +35,7 @@ fn asked_of(subcommand: Subcommand, words: &[String]) -> Option<Asked>
     match subcommand {
         Subcommand::Run => run_asked(&run_flags(RunFlags::NONE, words)?),
         Subcommand::Check => check_asked(&check_flags(CheckFlags::NONE, words)?),
-        Subcommand::Step => only_explained(CommandChoice::Step, words),
+        Subcommand::Step => Some(step_asked(json_flags(JsonFlags::NONE, words)?)),
         Subcommand::Live => Some(live_asked(json_flags(JsonFlags::NONE, words)?)),
         Subcommand::Asm => only_explained(CommandChoice::Asm, words),
         Subcommand::Dis => Some(dis_asked(dis_flags(DisFlags::NONE, words)?)),

@@ -1,8 +1,9 @@
 //! The flags of `mon`.
 ghost use Rattle.std.specs.Prelude.{◌≡◌, map, string_bytes, Some, None, MatchOption, option_and_then};
-ghost use Rattle.cli_words.specs.MonFlags.{follow_choice, form_of, follow_report, goes_further, has_names, is_from_idle, line_form, margin_of, is_misfit, joined_signal, mon_asked, mon_choice, mon_flags, mon_report, signal_in, waited_mon, with_mon_flag, with_mon_value, with_mon_word};
+ghost use Rattle.cli_words.specs.MonFlags.{follow_choice, form_of, follow_report, goes_further, has_names, is_from_idle, line_form, margin_of, is_misfit, joined_signal, mon_asked, mon_flags, mon_report, signal_in, waited_mon, with_mon_flag, with_mon_value, with_mon_word};
 
-use crate::choice::{Asked, CaptureReport, CommandChoice, FollowReport, MonChoice, Objects};
+use crate::choice::{Asked, CaptureReport, CommandChoice, FollowReport, MonChoice};
+use crate::form::form_by;
 use crate::joined::joined;
 use crate::micros::micros_of;
 use capture_forms::CaptureForm;
@@ -248,23 +249,6 @@ fn mon_report(
     }
 }
 
-// What is done with a capture.
-fn mon_choice(json: bool, mon: MonChoice) -> CommandChoice
-    ensures { result ≡ mon_choice json mon }
-{
-    if json {
-        CommandChoice::Json(Objects::Capture {
-            form: mon.form,
-            glitch: mon.glitch,
-            margin: mon.margin,
-            inverted: mon.inverted,
-            report: mon.report,
-        })
-    } else {
-        CommandChoice::Mon(mon)
-    }
-}
-
 // The form of a capture that is read line by line. It is not guessed.
 fn line_form(form: Option<CaptureForm>) -> Option<LineForm>
     ensures { result ≡ line_form form }
@@ -324,11 +308,11 @@ fn follow_choice(flags: &MonFlags) -> Option<CommandChoice>
     })
 }
 
-// Whether a value is missing, a wire has no name, or objects are asked for of lines that are folded.
+// Whether a value is missing, or a wire has no name.
 fn is_misfit(flags: &MonFlags) -> bool
     ensures { result ≡ is_misfit flags.now }
 {
-    flags.waits.is_some() || (flags.named && !has_names(flags.form)) || (flags.folded && flags.json)
+    flags.waits.is_some() || (flags.named && !has_names(flags.form))
 }
 
 /// What `mon` with these flags asks for.
@@ -354,9 +338,10 @@ pub fn mon_asked(flags: &MonFlags) -> Option<Asked>
         inverted: flags.inverted,
         folded: flags.folded,
         report,
+        written: form_by(flags.json),
     };
     Some(Asked {
-        choice: mon_choice(flags.json, mon),
+        choice: CommandChoice::Mon(mon),
         explains: flags.explains,
     })
 }

@@ -1,6 +1,6 @@
 //! The words of a command line that name its input.
 ghost use Rattle.std.specs.Prelude.{◌≡◌, ◌++◌, ◌∷◌, [], true, IfOk, IfSome, OnOk, length, map, string_bytes};
-ghost use Rattle.cli_words.specs.Operands.{asked_on, goes_with, has_standard_input, is_flag, is_pair, is_report, is_session, kind_of, operands_from, operands_in, place_after, takes, takes_value, words_from, words_in};
+ghost use Rattle.cli_words.specs.Operands.{asked_on, goes_with, has_standard_input, is_file, is_flag, is_pair, is_report, is_session, kind_of, of_file, of_operands, operands_from, operands_in, place_after, takes, takes_value, words_from, words_in};
 
 use crate::choice::{Asked, CommandChoice, Source, TestView};
 use crate::line::asked_by;
@@ -185,7 +185,7 @@ fn is_pair(choice: CommandChoice) -> bool
     ensures { result ≡ is_pair choice }
 {
     match choice {
-        CommandChoice::Edid { source, .. } => matches!(source, Source::Pair { .. }),
+        CommandChoice::Edid { source, .. } => matches!(source, Some(Source::Pair { .. })),
         _ => false,
     }
 }
@@ -214,13 +214,55 @@ fn goes_with(choice: CommandChoice, operands: &[String]) -> bool
     takes(choice, operands.len()) && (operands.len() <= 1 || !has_standard_input(operands))
 }
 
+// A choice of what a file is read for: of an EDID's file of which no flag says what it holds, its first bytes do.
+fn of_file(choice: CommandChoice) -> CommandChoice
+    ensures { result ≡ of_file choice }
+{
+    match choice {
+        CommandChoice::Edid {
+            source: Some(Source::Bytes),
+            reading,
+            view,
+        } => CommandChoice::Edid {
+            source: None,
+            reading,
+            view,
+        },
+        _ => choice,
+    }
+}
+
+// Whether the first operand is a file, and not standard input.
+fn is_file(operands: &[String]) -> bool
+    ensures { result ≡ is_file (map string_bytes operands.now) }
+{
+    match operands {
+        [] => false,
+        [operand, ..] => operand.as_str() != STANDARD_INPUT,
+    }
+}
+
+// What is asked for of these operands.
+fn of_operands(operands: &[String], asked: Asked) -> Asked
+    ensures { result ≡ of_operands (map string_bytes operands.now) asked }
+{
+    if is_file(operands) {
+        Asked {
+            choice: of_file(asked.choice),
+            ..asked
+        }
+    } else {
+        asked
+    }
+}
+
 /// What a command line asks for. `None` where its words ask for nothing, where there are more operands than that takes, or where
 /// standard input is one of several.
 pub fn asked_on(line: &CommandLine) -> Option<Asked>
     ensures asked { result ≡ asked_on (map string_bytes line.now.words.items) (map string_bytes line.now.operands.items) }
     ensures taken { IfSome result (λ asked. takes asked.choice (length (map string_bytes line.now.operands.items)) ≡ true) }
 {
-    let asked = asked_by(&line.words)?;
+    let asked = of_operands(&line.operands, asked_by(&line.words)?);
     if goes_with(asked.choice, &line.operands) {
         Some(asked)
     } else {

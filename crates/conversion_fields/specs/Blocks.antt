@@ -1,9 +1,7 @@
--- What is said of an EDID's data blocks (own): an object for each, and after it those of its fields.
+-- What is said of a data block (own).
 use Rattle.std.specs.Prelude.{ℕ, ◌+◌, ◌*◌, nat_lt, if◌then◌else◌, List, [], ◌∷◌, ◌++◌, length, drop}
 use Rattle.edid_cta.specs.Block.{block_bytes, kind_number}
-use Rattle.edid_cta.specs.Hdmi.{blocks_of}
 use Rattle.edid_cta.specs.declared.block.DataBlock.{DataBlock}
-use Rattle.edid_cta.specs.declared.raw.Ext.{Ext}
 use Rattle.edid_fields.specs.Fields.{chosen, end_of}
 use Rattle.edid_fields.specs.Forms.{Part}
 use Rattle.edid_fields.specs.Words as words
@@ -12,7 +10,7 @@ use Rattle.edid_blocks.specs.Tables.{parts_of}
 use Rattle.edid_parts.specs.Blocks.{block_name, front_frame}
 use Rattle.edid_parts.specs.Frames.{frame_parts}
 use Rattle.edid_parts.specs.declared.frames.Frame.TheVariants.{Head, Payload}
-use Rattle.conversion_fields.specs.Objects.{objects_text, part_object}
+use Rattle.conversion_fields.specs.Parts.{PartSaid}
 use Rattle.conversion_fields.specs.Said.{Said, all_said, end_in, front_said}
 
 -- ---- a data block: the byte of tag and length, what says of which kind it is, and its body
@@ -47,22 +45,10 @@ cut_of b = first_cut (words.cut_of b.payload.items (end_of (front_parts b) b.pay
 abbrev pub left_of : DataBlock → ℕ
 left_of b = words.left_of (body_of b) (end_of (body_parts b) (body_of b))
 
--- those of the data blocks one after another
-unfoldable pub blocks_said : ℕ → List DataBlock → List Said
-blocks_said at [] = []
-blocks_said at (b ∷ bs) = block_said at b ++ blocks_said (at + (1 + length b.payload.items)) bs
+abbrev pub block_part : ℕ → DataBlock → PartSaid
+block_part at b = record { at = at; bytes = block_bytes b; name = block_name b; cut = cut_of b; left = left_of b; fields = block_said at b }
 
--- ---- all of them
-
-unfoldable pub block_text : ℕ → ℕ → DataBlock → List ℕ
-block_text number at b = part_object number at (block_bytes b) (block_name b) (cut_of b) (left_of b) ++ objects_text number (block_said at b)
-
--- the data blocks from one on
-unfoldable pub blocks_text : ℕ → ℕ → List DataBlock → List ℕ
-blocks_text number at [] = []
-blocks_text number at (b ∷ bs) = block_text number at b ++ blocks_text number (at + (1 + length b.payload.items)) bs
-
--- the extensions from one on
-unfoldable pub extensions_text : ℕ → List Ext → List ℕ
-extensions_text number [] = []
-extensions_text number (x ∷ xs) = blocks_text number 4 (blocks_of x) ++ extensions_text (number + 1) xs
+-- data blocks that begin at a byte
+unfoldable pub blocks_parts : ℕ → List DataBlock → List PartSaid
+blocks_parts at [] = []
+blocks_parts at (b ∷ bs) = block_part at b ∷ blocks_parts (at + (1 + length b.payload.items)) bs

@@ -1,5 +1,5 @@
 -- What is said of the bits of a part of an EDID (own).
-use Rattle.std.specs.Prelude.{ℕ, ◌+◌, ◌*◌, ◌-◌, Bool, true, false, List, [], ◌∷◌, ◌++◌, codes, length, drop, map, flat_map}
+use Rattle.std.specs.Prelude.{ℕ, ◌+◌, ◌*◌, Bool, true, false, List, [], ◌∷◌, ◌++◌, codes, drop, map, flat_map}
 use Rattle.edid_fields.specs.Fields.{end_of, fields_of}
 use Rattle.edid_fields.specs.Forms.{Field, Part}
 use Rattle.edid_fields.specs.Tiling.{count}
@@ -30,13 +30,20 @@ said_of start f = record {
   found = found_of (is_reserved f);
 }
 
--- a byte that stands after all fields
-abbrev pub left_byte : ℕ → ℕ → Said
-left_byte at byte = record { at = 8 * at; width = 8; name = codes "left over"; value = byte; meaning = []; found = codes "\"left\"" }
+-- a byte that has no field, by its name and by what is found of it
+abbrev pub byte_said : List ℕ → List ℕ → ℕ → ℕ → Said
+byte_said name found at byte = record { at = 8 * at; width = 8; name = name; value = byte; meaning = []; found = found }
 
-unfoldable pub left_said : ℕ → List ℕ → List Said
-left_said at [] = []
-left_said at (byte ∷ bytes) = left_byte at byte ∷ left_said (at + 1) bytes
+unfoldable pub bytes_said : List ℕ → List ℕ → ℕ → List ℕ → List Said
+bytes_said name found at [] = []
+bytes_said name found at (byte ∷ bytes) = byte_said name found at byte ∷ bytes_said name found (at + 1) bytes
+
+-- those that stand after all fields, and those that have no table
+abbrev pub left_said : ℕ → List ℕ → List Said
+left_said at bytes = bytes_said (codes "left over") (codes "\"left\"") at bytes
+
+abbrev pub plain_said : List ℕ → ℕ → List ℕ → List Said
+plain_said name at bytes = bytes_said name (codes "null") at bytes
 
 -- what a table says of bytes, as far as it goes, and of all of them
 abbrev pub front_said : ℕ → List Part → List ℕ → List Said

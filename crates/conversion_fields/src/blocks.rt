@@ -1,23 +1,25 @@
 //! What is said of a data block.
-ghost use Rattle.std.specs.Prelude.{◌≡◌, ◌≤◌, ◌+◌, [], ◌∷◌, length, drop, IsTrue};
+ghost use Rattle.std.specs.Prelude.{◌≡◌, ◌≤◌, ◌+◌, ◌*◌, [], ◌∷◌, length, drop, flat_map, IsTrue};
 ghost use Rattle.text_core.specs.Adds.{Adds};
 ghost use Rattle.edid_cta.specs.Block.{block_bytes};
 ghost use Rattle.edid_fields.specs.Fields.{end_of, is_table};
 ghost use Rattle.edid_fields.specs.Forms.{table_in_code};
 ghost use Rattle.edid_parts.specs.Blocks.{block_name};
 ghost use Rattle.edid_parts.specs.Frames.{frame_parts};
-ghost use Rattle.conversion_fields.specs.Blocks.{block_said, block_text, body_of, body_parts, cut_of, first_cut, front_end, front_parts, head_byte, left_of};
+ghost use Rattle.conversion_fields.specs.Blocks.{block_part, block_said, blocks_parts, body_of, body_parts, cut_of, first_cut, front_end, front_parts, head_byte, left_of};
 ghost use Rattle.conversion_fields.specs.Objects.{objects_text, part_object};
+ghost use Rattle.conversion_fields.specs.Parts.{part_text, parts_text};
 ghost use Rattle.conversion_fields.specs.Said.{all_said, end_in, front_said};
 
-use crate::objects::{Lengths, add_fields, add_left, add_part};
+use crate::objects::{Lengths, add_bytes, add_fields, add_part};
 use edid_blocks::{layout_of, parts_of};
 use edid_cta::DataBlock;
 use edid_fields::{Part, Place, cut_of, left_of, walk};
 use edid_parts::{Frame, block_name, frame_parts, front_frame};
 use text_core::{Counted, Sink};
 
-fn after(bytes: &[u8], count: usize) -> &[u8]
+/// The bytes after some.
+pub(crate) fn after(bytes: &[u8], count: usize) -> &[u8]
     ensures { result.now ≡ drop count bytes.now }
 {
     if count < bytes.len() {
@@ -34,9 +36,9 @@ pub(crate) fn head_of(block: &DataBlock) -> [u8; 1]
     [block.kind.number() * 32 + block.payload.len() as u8]
 }
 
-// Where the fields of bytes end.
+/// Where the fields of bytes end.
 #[inline(never)]
-fn end_of(table: &[Part], bytes: &[u8]) -> Place
+pub(crate) fn end_of(table: &[Part], bytes: &[u8]) -> Place
     requires few { length bytes.now ≤ 31 }
     requires table { IsTrue (is_table (table_in_code table.now)) }
     ensures end { result ≡ end_of (table_in_code table.now) bytes.now }
@@ -66,15 +68,28 @@ fn add_front<S: Sink>(
     walked.end.at
 }
 
-// Adds what a table says of bytes, and those that are left over.
-fn add_all<S: Sink>(out: &mut Counted<'_, S>, number: u64, at: usize, table: &[Part], bytes: &[u8])
+/// Adds what a table says of bytes, and those that are left over.
+pub(crate) fn add_all<S: Sink>(
+    out: &mut Counted<'_, S>,
+    number: u64,
+    at: usize,
+    table: &[Part],
+    bytes: &[u8],
+)
     requires start { at ≤ 6000 }
     requires few { length bytes.now ≤ 31 }
     requires table { IsTrue (is_table (table_in_code table.now)) }
     ensures { Adds out.old out.new (objects_text number (all_said at (table_in_code table.now) bytes.now)) }
 {
     let end = add_front(out, number, at, table, bytes);
-    add_left(out, number, at + end, after(bytes, end));
+    add_bytes(
+        out,
+        number,
+        at + end,
+        "left over",
+        "\"left\"",
+        after(bytes, end),
+    );
 }
 
 /// The table of the body of a data block.
@@ -150,7 +165,7 @@ fn add_head<S: Sink>(out: &mut Counted<'_, S>, number: u64, at: usize, block: &D
 }
 
 /// Adds the object of a data block that begins at a byte, and those of its fields.
-#[tactic(auto, unfolding(crate::specs::Blocks::block_text))]
+#[tactic(auto, unfolding(crate::specs::Parts::part_text))]
 pub(crate) fn add_block<S: Sink>(
     out: &mut Counted<'_, S>,
     number: u64,
@@ -158,7 +173,7 @@ pub(crate) fn add_block<S: Sink>(
     block: &DataBlock,
 )
     requires start { at ≤ 5000 }
-    ensures { Adds out.old out.new (block_text number at block.now) }
+    ensures { Adds out.old out.new (part_text number (block_part at block.now)) }
 {
     add_object(out, number, at, block);
     add_head(out, number, at, block);
@@ -166,4 +181,24 @@ pub(crate) fn add_block<S: Sink>(
     let end = add_front(out, number, at + 1, front_parts(block), payload);
     let body = after(payload, end);
     add_all(out, number, at + 1 + end, body_parts(block), body);
+}
+
+/// Adds the objects of data blocks that begin at a byte, and returns where they end.
+#[tactic(auto, unfolding(crate::specs::Blocks::blocks_parts))]
+pub(crate) fn add_blocks<S: Sink>(
+    out: &mut Counted<'_, S>,
+    number: u64,
+    at: usize,
+    blocks: &[DataBlock],
+) -> usize
+    requires few { at + 32 * length blocks.now ≤ 5000 }
+    ensures text { Adds out.old out.new (parts_text number (blocks_parts at blocks.now)) }
+    ensures end { result ≡ at + length (flat_map block_bytes blocks.now) }
+{
+    if let [block, others @ ..] = blocks {
+        add_block(out, number, at, block);
+        add_blocks(out, number, at + (1 + block.payload.len()), others)
+    } else {
+        at
+    }
 }

@@ -5,7 +5,10 @@
 mod blocks;
 mod laws;
 mod objects;
+mod whole;
 mod writing;
 
-pub use laws::{block_bits_stand_once, blocks_bits_stand_once};
+pub use laws::{
+    base_bits_stand_once, block_bits_stand_once, blocks_bits_stand_once, extension_bits_stand_once,
+};
 pub use writing::write_fields;

@@ -5,7 +5,7 @@ ghost use Rattle.record_core.specs.Strings.{string_text};
 ghost use Rattle.edid_fields.specs.Forms.{field_in_code};
 ghost use Rattle.edid_fields.specs.Words.{is_reserved};
 ghost use Rattle.conversion_fields.specs.Objects.{bytes_text, field_object, field_text, found_text, lengths_text, objects_text, part_object, place_text, value_text};
-ghost use Rattle.conversion_fields.specs.Said.{found_of, left_byte, left_said, said_of};
+ghost use Rattle.conversion_fields.specs.Said.{byte_said, bytes_said, found_of, said_of};
 
 use edid_fields::{Report, is_reserved, word_of};
 use record_core::add_quoted;
@@ -17,7 +17,7 @@ fn add_string<S: Sink>(out: &mut Counted<'_, S>, text: &str)
     add_quoted(out, text.as_bytes());
 }
 
-fn add_bytes<'a, S: Sink>(out: &mut Counted<'_, S>, number: u64, at: u64, bytes: &'a [u8])
+fn add_begin<'a, S: Sink>(out: &mut Counted<'_, S>, number: u64, at: u64, bytes: &'a [u8])
     ensures { Adds out.old out.new (bytes_text number at bytes.now) }
 {
     out.add_line(&[
@@ -62,7 +62,7 @@ pub(crate) fn add_part<S: Sink>(
 )
     ensures { Adds out.old out.new (part_object number at bytes.now name.now lengths.cut lengths.left) }
 {
-    add_bytes(out, number, at as u64, bytes);
+    add_begin(out, number, at as u64, bytes);
     add_string(out, name);
     add_lengths(out, lengths.cut as u64, lengths.left as u64);
 }
@@ -179,8 +179,15 @@ pub(crate) fn add_fields<S: Sink>(
     }
 }
 
-fn add_left_byte<S: Sink>(out: &mut Counted<'_, S>, number: u64, at: usize, byte: u8)
-    ensures { Adds out.old out.new (field_object number (left_byte at byte)) }
+fn add_byte<S: Sink>(
+    out: &mut Counted<'_, S>,
+    number: u64,
+    at: usize,
+    name: &str,
+    found: &str,
+    byte: u8,
+)
+    ensures { Adds out.old out.new (field_object number (byte_said name.now found.now at byte)) }
 {
     let place = Place {
         number,
@@ -189,22 +196,29 @@ fn add_left_byte<S: Sink>(out: &mut Counted<'_, S>, number: u64, at: usize, byte
         low: 0,
     };
     let words = Words {
-        name: "left over",
+        name,
         value: u64::from(byte),
         meaning: "",
-        found: "\"left\"",
+        found,
     };
     add_words(out, place, words);
 }
 
-/// Adds the objects of bytes that stand after all fields.
-#[tactic(auto, unfolding(crate::specs::Said::left_said))]
-pub(crate) fn add_left<S: Sink>(out: &mut Counted<'_, S>, number: u64, at: usize, bytes: &[u8])
+/// Adds the objects of bytes that have no field, by their name and by what is found of them.
+#[tactic(auto, unfolding(crate::specs::Said::bytes_said))]
+pub(crate) fn add_bytes<S: Sink>(
+    out: &mut Counted<'_, S>,
+    number: u64,
+    at: usize,
+    name: &str,
+    found: &str,
+    bytes: &[u8],
+)
     requires few { at + length bytes.now ≤ 7000 }
-    ensures { Adds out.old out.new (objects_text number (left_said at bytes.now)) }
+    ensures { Adds out.old out.new (objects_text number (bytes_said name.now found.now at bytes.now)) }
 {
     if let [byte, others @ ..] = bytes {
-        add_left_byte(out, number, at, *byte);
-        add_left(out, number, at + 1, others);
+        add_byte(out, number, at, name, found, *byte);
+        add_bytes(out, number, at + 1, name, found, others);
     }
 }

@@ -1,10 +1,8 @@
-//! Tests of edid_fields, edid_blocks and conversion_fields: which bits of a block are reserved, how many bytes it lacks or has left over, and where its
+//! Tests of edid_fields and edid_blocks: which bits of a block are reserved, how many bytes it lacks or has left over, and where its
 //! fields stand, with values from the standards.
 #![tactic(auto)]
 
 #[cfg(test)]
 mod blocks;
-#[cfg(test)]
-mod objects;
 #[cfg(test)]
 mod places;

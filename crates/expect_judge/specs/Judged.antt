@@ -7,7 +7,7 @@ use Rattle.text_core.specs.Lines.{lines_of}
 use Rattle.text_core.specs.Words.{words_of}
 use Rattle.expect_text.specs.Line.{onset_in, unlabelled_words}
 use Rattle.expect_text.specs.Form.{ExpectLine, ExpectWindow, form_in, is_allowed}
-use Rattle.expect_text.specs.Form.ExpectLine.{Other, Rounds, State, Refused}
+use Rattle.expect_text.specs.Form.ExpectLine.{Other, Rounds, State, Refused, Unremarked}
 use Rattle.expect_text.specs.Form.ExpectWindow.{Within, From}
 use Rattle.expect_text.specs.Faults.{line_of_label, event_meant}
 use Rattle.text_core.specs.declared.at.AtWord.{AtWord}
@@ -78,6 +78,12 @@ is_state_met (word ∷ words) others = if bytes_eq word (codes "not") then lacks
 abbrev pub state_judged : List ℕ → List (List ℕ) → Judged
 state_judged state words = record { holds = Some (is_state_met words (state_words (words_of state))); at = None; span = None; count = 0 }
 
+-- ---- remarks
+
+-- nothing is told of the audit of the run's line
+abbrev pub unremarked_judged : List ℕ → Judged
+unremarked_judged told = record { holds = Some (length told == 0); at = None; span = None; count = 0 }
+
 -- ---- refused events
 
 abbrev pub refusal_by : Option EventLine → Option (List ℕ)
@@ -123,6 +129,7 @@ form_judged script trace state at number named onset (Ok Other) = if named then 
 form_judged script trace state at number named onset (Ok (Rounds quantity window pattern)) = rounds_judged trace quantity pattern (span_of script at window)
 form_judged script trace state at number named onset (Ok (State time device words)) = state_judged state words
 form_judged script trace state at number named onset (Ok (Refused name word)) = refused_judged script trace number name word
+form_judged script trace state at number named onset (Ok (Unremarked pattern)) = unremarked_judged state
 
 -- a line of this number, by the instants of the lines above and the state line that it speaks of
 abbrev pub line_judged : List ℕ → List ℕ → List ℕ → (ℕ → Option ℕ) → ℕ → List ℕ → Judged
@@ -177,8 +184,9 @@ is_state_form (Ok Other) = false
 is_state_form (Ok (Rounds quantity window pattern)) = false
 is_state_form (Ok (State time device words)) = true
 is_state_form (Ok (Refused name word)) = false
+is_state_form (Ok (Unremarked pattern)) = true
 
--- a line speaks of a state
+-- a line speaks of a state, or of the audit, of which what is told stands for a state
 abbrev pub is_of_state : List ℕ → Bool
 is_of_state line = is_state_form (form_in (unlabelled_words (words_of line)))
 
@@ -208,6 +216,7 @@ form_expects script own number (Err cause) = false
 form_expects script own number (Ok Other) = false
 form_expects script own number (Ok (Rounds quantity window pattern)) = false
 form_expects script own number (Ok (State time device words)) = false
+form_expects script own number (Ok (Unremarked pattern)) = false
 form_expects script own number (Ok (Refused name word)) = is_number number (event_meant script own name)
 
 -- a line of the first number expects that the event of the line of the other one is refused

@@ -5,7 +5,7 @@ use Rattle.text_core.specs.Lines.{lines_of}
 use Rattle.text_core.specs.Words.{words_of}
 use Rattle.expect_text.specs.Line.{label_in, unlabelled_words}
 use Rattle.expect_text.specs.Form.{ExpectLine, form_in}
-use Rattle.expect_text.specs.Form.ExpectLine.{Other, Rounds, State, Refused}
+use Rattle.expect_text.specs.Form.ExpectLine.{Other, Rounds, State, Refused, Unremarked}
 use Rattle.text_core.specs.declared.at.AtWord.{AtWord}
 use Rattle.expect_text.specs.declared.form.ExpectCause.{ExpectCause}
 
@@ -17,6 +17,7 @@ form_is_of_above (Err cause) = false
 form_is_of_above (Ok Other) = false
 form_is_of_above (Ok (Rounds quantity window pattern)) = false
 form_is_of_above (Ok (State time device words)) = false
+form_is_of_above (Ok (Unremarked pattern)) = false
 form_is_of_above (Ok (Refused None word)) = true
 form_is_of_above (Ok (Refused (Some name) word)) = false
 

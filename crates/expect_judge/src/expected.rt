@@ -47,6 +47,7 @@ fn note_line(
             ExpectLine::Other => Ok(()),
             ExpectLine::Rounds { .. } => Ok(()),
             ExpectLine::State { .. } => Ok(()),
+            ExpectLine::Unremarked { .. } => Ok(()),
         },
     }
 }

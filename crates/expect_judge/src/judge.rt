@@ -6,7 +6,7 @@ ghost use Rattle.text_core.specs.Lines.{lines_of};
 ghost use Rattle.text_core.specs.Words.{words_after, words_of};
 ghost use Rattle.expect_text.specs.Form.{window_of};
 ghost use Rattle.expect_judge.specs.Told.{event_as};
-ghost use Rattle.expect_judge.specs.Judged.{event_instant, failure, finding_as, findings_of, first_state, has_word, has_words, instant_at, is_of_state, is_state_met, is_word, lacks_words, later_states, line_judged, noted, nothing, or_more, other_judged, refusal_at, refused_judged, rounds_judged, span_from, span_of, state_judged, states_for};
+ghost use Rattle.expect_judge.specs.Judged.{event_instant, failure, finding_as, findings_of, first_state, has_word, has_words, instant_at, is_of_state, is_state_met, is_word, lacks_words, later_states, line_judged, noted, nothing, or_more, other_judged, refusal_at, refused_judged, rounds_judged, span_from, span_of, state_judged, states_for, unremarked_judged};
 
 use crate::index::Index;
 use crate::named::is_labelled;
@@ -36,7 +36,7 @@ pub struct Judged {
 pub struct JudgedLine<'a> {
     pub line: u64,
     pub judged: Judged,
-    /// The state line that it speaks of; empty where it speaks of none.
+    /// The state line that it speaks of, or the remarks that are told of the audit; empty where it speaks of none.
     pub state: &'a [u8],
 }
 
@@ -247,6 +247,18 @@ fn other_judged(index: &Index<'_>, number: u64, onset: Option<u64>) -> Judged
     }
 }
 
+// What is found of a line that expects no remark of an audit, by those that are told.
+fn unremarked_judged(told: &[u8]) -> Judged
+    ensures { result ≡ unremarked_judged told.now }
+{
+    Judged {
+        holds: Some(told.is_empty()),
+        at: None,
+        span: None,
+        count: 0,
+    }
+}
+
 fn line_judged(
     labels: &Labels<'_>,
     index: &Index<'_>,
@@ -276,11 +288,12 @@ fn line_judged(
             ExpectLine::Refused { label, word } => {
                 refused_judged(labels, index, number, label, word)
             }
+            ExpectLine::Unremarked { .. } => unremarked_judged(state),
         },
     }
 }
 
-/// Whether a line speaks of a state.
+/// Whether a line speaks of a state or of the audit.
 pub fn is_of_state(line: &[u8]) -> bool
     ensures { result ≡ is_of_state line.now }
 {
@@ -291,6 +304,7 @@ pub fn is_of_state(line: &[u8]) -> bool
             ExpectLine::Rounds { .. } => false,
             ExpectLine::State { .. } => true,
             ExpectLine::Refused { .. } => false,
+            ExpectLine::Unremarked { .. } => true,
         },
     }
 }

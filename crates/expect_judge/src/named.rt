@@ -34,6 +34,7 @@ fn is_of_above(line: &[u8]) -> bool
             ExpectLine::Other => false,
             ExpectLine::Rounds { .. } => false,
             ExpectLine::State { .. } => false,
+            ExpectLine::Unremarked { .. } => false,
         },
     }
 }

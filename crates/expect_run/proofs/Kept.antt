@@ -12,7 +12,7 @@ use Rattle.text_core.specs.Words.{words_of}
 use Rattle.expect_text.specs.Names.{meets}
 use Rattle.expect_text.specs.Line.{onset_in, unlabelled_words}
 use Rattle.expect_text.specs.Form.{ExpectLine, ExpectWindow, expectation_in, form_in}
-use Rattle.expect_text.specs.Form.ExpectLine.{Other, Rounds, State, Refused}
+use Rattle.expect_text.specs.Form.ExpectLine.{Other, Rounds, State, Refused, Unremarked}
 use Rattle.expect_text.specs.Form.ExpectWindow.{Within, From}
 use Rattle.expect_text.specs.Faults.{event_above, event_labelled, is_event_at, line_of_label}
 use Rattle.text_core.specs.declared.at.AtWord.{AtWord}
@@ -155,6 +155,7 @@ FormCovered script number (Ok Other) = Unit {0}
 FormCovered script number (Ok (Rounds quantity window pattern)) =
     ((r : RoundLine) → is_met r (record { span = known_span script (time_at script) window; pattern = pattern }) ≡ true → list_any (is_met r) (watches_of script) ≡ true) × (time_at script number ≡ None)
 FormCovered script number (Ok (State time device words)) = Unit {0}
+FormCovered script number (Ok (Unremarked pattern)) = Unit {0}
 FormCovered script number (Ok (Refused None word)) = is_named script (number - 1) ≡ true
 FormCovered script number (Ok (Refused (Some name) word)) = Unit {0}
 
@@ -254,6 +255,7 @@ covered script number (line ∷ lines) h names times = (
           ∙ no_labelled_time line quantity window pattern e,
     )
     first (Ok (State time device words)) e = tt
+    first (Ok (Unremarked pattern)) e = tt
     first (Ok (Refused None word)) e =
         names (number - 1) (or_first (names_line number line (number - 1)) (name_lines (number + 1) lines (number - 1))
         (ap (λ b. (is_labelled line && (number == number - 1)) || b) (ap (λ (g : Result ExpectLine (AtWord ExpectCause)). form_is_of_above g && (number - 1 == number - 1)) e ∙ itself (number - 1))
@@ -410,6 +412,7 @@ module _ (script few trace : List ℕ) (are : lines_of few ≡ filter (is_kept s
   form_same state at near number named onset (Ok (Rounds quantity window pattern)) c names =
       rounds_same quantity pattern (span_of script at window) (window_covered script at near window pattern c.0)
   form_same state at near number named onset (Ok (State time device words)) c names = refl
+  form_same state at near number named onset (Ok (Unremarked pattern)) c names = refl
   form_same state at near number named onset (Ok (Refused None word)) c names = ap (of_refusal word) (refusals_above number c)
   form_same state at near number named onset (Ok (Refused (Some name) word)) c names = ap (of_refusal word) (refusals_same name)
 
@@ -422,6 +425,7 @@ module _ (script few trace : List ℕ) (are : lines_of few ≡ filter (is_kept s
   form_near state at number false onset (Ok Other) c o instant time h k = cc
   form_near state at number named onset (Ok (Rounds quantity window pattern)) c o instant time h k = untimed time instant (sym c.1 ∙ k)
   form_near state at number named onset (Ok (State time_of_state device words)) c o instant time h k = cc
+  form_near state at number named onset (Ok (Unremarked pattern)) c o instant time h k = cc
   form_near state at number named onset (Ok (Refused name word)) c o instant time h k = cc
 
   next_near : (state : List ℕ) (at : ℕ → Option ℕ) (number : ℕ) (line : List ℕ) → AreNear script at → FormCovered script number (form_in (unlabelled_words (words_of line)))
@@ -468,6 +472,7 @@ module _ (script few trace : List ℕ) (are : lines_of few ≡ filter (is_kept s
   remarks_same state at near number named onset (Ok (Rounds quantity window pattern)) c h =
       span_same quantity pattern (span_of script at window) (window_covered script at near window pattern c.0) h
   remarks_same state at near number named onset (Ok (State time device words)) c h = refl
+  remarks_same state at near number named onset (Ok (Unremarked pattern)) c h = refl
   remarks_same state at near number named onset (Ok (Refused name word)) c h = refl
 
   line_same : (state : List ℕ) (r : Report) (at : ℕ → Option ℕ) (number : ℕ) (line : List ℕ) → AreNear script at → FormCovered script number (form_in (unlabelled_words (words_of line)))

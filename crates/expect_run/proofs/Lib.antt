@@ -1,3 +1,4 @@
+pub mod Remarked
 pub mod Running
 pub mod Standing
 pub mod Found

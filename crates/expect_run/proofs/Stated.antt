@@ -4,7 +4,7 @@ use Rattle.std.specs.List.{list_any}
 use Rattle.text_core.specs.Words.{words_of}
 use Rattle.expect_text.specs.Line.{unlabelled_words}
 use Rattle.expect_text.specs.Form.{ExpectLine, form_in}
-use Rattle.expect_text.specs.Form.ExpectLine.{Other, Rounds, State, Refused}
+use Rattle.expect_text.specs.Form.ExpectLine.{Other, Rounds, State, Refused, Unremarked}
 use Rattle.text_core.specs.declared.at.AtWord.{AtWord}
 use Rattle.expect_text.specs.declared.form.ExpectCause.{ExpectCause}
 use Rattle.std.proofs.lemmas.Bool.{false≢true}
@@ -22,6 +22,7 @@ no_state topology plain (Ok Other) h = refl
 no_state topology plain (Ok (Rounds quantity window pattern)) h = refl
 no_state topology plain (Ok (State time device words)) h = absurd (false≢true (sym h))
 no_state topology plain (Ok (Refused name word)) h = refl
+no_state topology plain (Ok (Unremarked pattern)) h = absurd (false≢true (sym h))
 
 -- a line that speaks of none
 pub none_more : (topology plain : List ℕ) (all lines rest : List (List ℕ)) (line : List ℕ) (found : List (List ℕ)) → lines ≡ line ∷ rest → is_of_state line ≡ false

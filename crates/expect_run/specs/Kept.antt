@@ -12,7 +12,7 @@ use Rattle.expect_text.specs.Names.{meets}
 use Rattle.expect_text.specs.Line.{unlabelled_words, has_verb}
 use Rattle.expect_text.specs.Faults.{line_of_label}
 use Rattle.expect_text.specs.Form.{ExpectLine, ExpectWindow, form_in}
-use Rattle.expect_text.specs.Form.ExpectLine.{Other, Rounds, State, Refused}
+use Rattle.expect_text.specs.Form.ExpectLine.{Other, Rounds, State, Refused, Unremarked}
 use Rattle.expect_text.specs.Form.ExpectWindow.{Within, From}
 use Rattle.text_core.specs.declared.at.AtWord.{AtWord}
 use Rattle.expect_text.specs.declared.form.ExpectCause.{ExpectCause}
@@ -89,6 +89,7 @@ watch_by script times (Ok Other) = None
 watch_by script times (Ok (Rounds quantity window pattern)) = Some (record { span = known_span script times window; pattern = pattern })
 watch_by script times (Ok (State time device words)) = None
 watch_by script times (Ok (Refused name word)) = None
+watch_by script times (Ok (Unremarked pattern)) = None
 
 abbrev pub watch_of : List ℕ → (ℕ → Option ℕ) → List ℕ → Option Watch
 watch_of script times line = watch_by script times (form_in (unlabelled_words (words_of line)))

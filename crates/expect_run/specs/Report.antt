@@ -8,7 +8,7 @@ use Rattle.text_core.specs.Lines.{lines_of}
 use Rattle.text_core.specs.Words.{words_of}
 use Rattle.expect_text.specs.Line.{unlabelled_words}
 use Rattle.expect_text.specs.Form.{ExpectLine, form_in}
-use Rattle.expect_text.specs.Form.ExpectLine.{Other, Rounds, State, Refused}
+use Rattle.expect_text.specs.Form.ExpectLine.{Other, Rounds, State, Refused, Unremarked}
 use Rattle.text_core.specs.declared.at.AtWord.{AtWord}
 use Rattle.expect_text.specs.declared.form.ExpectCause.{ExpectCause}
 use Rattle.expect_judge.specs.Told.{EventLine, event_in, refusal_in}
@@ -85,13 +85,14 @@ abbrev pub span_remarks : List ℕ → List ℕ → ℕ → Option TimeSpan → 
 span_remarks trace pattern count None = codes "# no instant\n"
 span_remarks trace pattern count (Some span) = seen_line count span ++ shown_text trace span (if count == 0 then codes "*" else pattern)
 
--- the state line, where a state was expected
+-- the state line, where a state was expected, or what is told of the audit, where no remark was
 abbrev pub form_remarks : List ℕ → List ℕ → Judged → Result ExpectLine (AtWord ExpectCause) → List ℕ
 form_remarks trace state j (Err cause) = []
 form_remarks trace state j (Ok Other) = []
 form_remarks trace state j (Ok (Rounds quantity window pattern)) = span_remarks trace pattern j.count j.span
 form_remarks trace state j (Ok (State time device words)) = shown_line state
 form_remarks trace state j (Ok (Refused name word)) = []
+form_remarks trace state j (Ok (Unremarked pattern)) = state
 
 abbrev pub remarks : List ℕ → List ℕ → Judged → List ℕ → List ℕ
 remarks trace state j line = form_remarks trace state j (form_in (unlabelled_words (words_of line)))

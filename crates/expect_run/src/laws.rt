@@ -2,7 +2,7 @@
 ghost use Rattle.expect_run.specs.Check.{TalliesCountVerdicts};
 ghost use Rattle.expect_run.specs.Cuts.{CutsAreRead};
 
-use room_run::{texts_have_one_held_trace, texts_have_one_trace};
+use room_run::{texts_have_one_held_trace, texts_have_one_line, texts_have_one_trace};
 
 /// The tally of a check counts the verdicts of the same texts, and as failed those of them that are false.
 pub fn tallies_count_verdicts()
@@ -10,6 +10,7 @@ pub fn tallies_count_verdicts()
 {
     // No effect at run time. The proof reads these laws.
     texts_have_one_trace();
+    texts_have_one_line();
     texts_have_one_held_trace();
 }
 

@@ -231,6 +231,16 @@ fn append_span(
     append_shown(out, rounds, span, looked_at(count, pattern))
 }
 
+// Appends what is told of an audit.
+fn append_told(out: &mut Held, told: &[u8]) -> Result<(), AllocError>
+    ensures { OnOk result (held_bytes out.new ≡ held_bytes out.old ++ told.now) }
+{
+    match write_pieces(out, &[Piece::Bytes(told)]) {
+        Ok(_) => Ok(()),
+        Err(_) => Err(AllocError),
+    }
+}
+
 // Appends what stands below a test that failed.
 fn append_remarks(
     out: &mut Held,
@@ -247,6 +257,7 @@ fn append_remarks(
             ExpectLine::Other => Ok(()),
             ExpectLine::Refused { .. } => Ok(()),
             ExpectLine::State { .. } => append_shown_line(out, state),
+            ExpectLine::Unremarked { .. } => append_told(out, state),
             ExpectLine::Rounds { pattern, .. } => {
                 append_span(out, rounds, pattern, judged.count, judged.span)
             }

@@ -1,19 +1,26 @@
 //! The state lines that the lines of a script speak of.
 ghost use Rattle.std.specs.Prelude.{◌≡◌, ◌≤◌, map, option_map, IfOk};
 ghost use Rattle.std.specs.List.{list_any};
+ghost use Rattle.std.specs.Option.{option_copied};
 ghost use Rattle.line_wave.specs.Bounds.{latest_event};
 ghost use Rattle.text_core.specs.Lines.{lines_of};
 ghost use Rattle.expect_text.specs.Line.{plain_script};
 ghost use Rattle.expect_judge.specs.Judged.{is_of_state, states_for};
-ghost use Rattle.expect_run.specs.States.{AreStates, IsStateAt, IsStateRead, IsTraced};
+ghost use Rattle.expect_remarks.specs.Kept.{audit_remarks};
+ghost use Rattle.expect_remarks.specs.Met.{remarks_met, shown_remarks};
+ghost use Rattle.expect_run.specs.States.{AreStates, IsRemarkedOf, IsStateAt, IsStateRead, IsTraced};
 
 use crate::sieve::{Patterns, Sieve};
+use capture_core::Capture;
+use capture_forms::{CaptureForm, read_capture};
 use expect_judge::{is_of_state, state_line};
+use expect_remarks::{append_remarks, audit_remarks, remarks_met};
 use expect_text::{ExpectLine, cut_script, form_in, plain_script, unlabelled};
+use room_run::edges::emulate_edges;
 use room_run::emulate::{EmulateError, emulate};
 use room_script::one_script;
 use std::alloc::{AllocError, Global};
-use text_core::first_line;
+use text_core::{Held, first_line};
 
 // The state line of a device at the end of a run of the plain script up to a time.
 fn state_at(
@@ -50,7 +57,41 @@ fn state_at(
     Ok(state)
 }
 
-// The state line that a line of the script speaks of, where it speaks of one.
+// What is told of the remarks of a capture's audit that meet a pattern.
+fn told_of(alloc: Global, pattern: Option<&[u8]>, capture: &Capture) -> Result<Vec<u8>, AllocError>
+    ensures { IfOk result (λ told. told.items ≡ shown_remarks (remarks_met (option_copied pattern.entry) (audit_remarks capture.now))) }
+{
+    let remarks = audit_remarks(alloc, capture)?;
+    let met = remarks_met(alloc, &remarks, pattern)?;
+    let mut held = Held::new(alloc);
+    append_remarks(&mut held, &met)?;
+    let mut told = Vec::new(alloc);
+    told.extend_from_slice(held.bytes())?;
+    Ok(told)
+}
+
+// What is told of the audit of the line of a run of the plain script.
+#[tactic(auto, using(crate::proofs::Remarked::remarked))]
+fn run_told(
+    alloc: Global,
+    topology: &[u8],
+    plain: &[u8],
+    pattern: Option<&[u8]>,
+) -> Result<Vec<u8>, AllocError>
+    ensures { IfOk result (λ told. IsRemarkedOf topology.now plain.now (option_copied pattern.entry) told.items) }
+{
+    let mut edges = Held::new(alloc);
+    match emulate_edges(alloc, topology, plain, &mut edges) {
+        Ok(_) => {}
+        Err(_) => return Err(AllocError),
+    }
+    let Ok(capture) = read_capture(alloc, CaptureForm::Edges, &[], edges.bytes()) else {
+        return Err(AllocError);
+    };
+    told_of(alloc, pattern, &capture)
+}
+
+// The state line that a line of the script speaks of, or what is told of the audit, where it speaks of one.
 fn state_for(
     alloc: Global,
     topology: &[u8],
@@ -65,6 +106,9 @@ fn state_for(
         Ok(form) => match form {
             ExpectLine::State { time, device, .. } => {
                 Ok(Some(state_at(alloc, topology, plain, time, device)?))
+            }
+            ExpectLine::Unremarked { pattern } => {
+                Ok(Some(run_told(alloc, topology, plain, pattern)?))
             }
             ExpectLine::Other => Ok(None),
             ExpectLine::Rounds { .. } => Ok(None),

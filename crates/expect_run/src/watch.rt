@@ -62,6 +62,7 @@ fn watch_of<'a>(labels: &Labels<'_>, times: &Times<'_>, line: &'a [u8]) -> Optio
             }),
             ExpectLine::State { .. } => None,
             ExpectLine::Refused { .. } => None,
+            ExpectLine::Unremarked { .. } => None,
         },
     }
 }

@@ -1,8 +1,8 @@
 //! Each row through the public calls.
 use crate::rows::{
     BELOW, BELOW_REPORT, COUNTS, COUNTS_REPORT, CUTS, FAULTS, LABELS, LABELS_REPORT, PATTERNS,
-    PLAIN, PULSES, PULSES_REPORT, REFUSALS, REPORT, SCRIPT, STATES, STATES_REPORT, TOPOLOGY,
-    WINDOWS, WINDOWS_REPORT,
+    PLAIN, PULSES, PULSES_REPORT, REFUSALS, REMARKS, REMARKS_REPORT, REPORT, SCRIPT, STATES,
+    STATES_REPORT, TOPOLOGY, WINDOWS, WINDOWS_REPORT,
 };
 use expect_run::{CheckError, Tally, check, verdicts};
 use expect_text::{cut_script, first_fault, fits, plain_script};
@@ -134,6 +134,13 @@ fn rounds_are_counted(rt: HostRuntime) {
     let (text, counts) = report_of(&rt, TOPOLOGY, COUNTS);
     holds(&rt, counts.as_str() == "5 of 12", "counts");
     holds(&rt, text.as_str() == COUNTS_REPORT, "report");
+}
+
+#[test]
+fn remarks_of_the_run_s_line_are_reported(rt: HostRuntime) {
+    let (text, counts) = report_of(&rt, TOPOLOGY, REMARKS);
+    holds(&rt, counts.as_str() == "4 of 6", "counts");
+    holds(&rt, text.as_str() == REMARKS_REPORT, "report");
 }
 
 #[test]

@@ -64,6 +64,12 @@ at 5 press p1 play|expect at most 6 from 1 to y short => line 2: number at 7
 at 5 press p1 play|expect at most 6 within 1 of a short => line 2: label at 7
 at 5 press p1 play|expect exactly 6 from 2 to 1 short => line 2: order at 6
 at 5 press p1 play|expect at most 6 from 1 to 2 4>f active_source => line 2: pattern at 9
+at 5 press p1 play|expect no-remark => none
+at 5 press p1 play|label b expect no-remark free 9 => none
+at 5 press p1 play|expect no-remark  => line 2: word at 2
+at 5 press p1 play|expect no-remark *a*b*c*d* => line 2: word at 2
+at 5 press p1 play|expect no-remark fre => line 2: pattern at 2
+at 5 press p1 play|label b expect no-remark attempt => line 2: pattern at 4
 at 5 press p1 play|label b expect => line 2: word at 3
 at 5 press p1 play|label b expect never from 1 to 2 short => line 2: word at 3
 at 5 press p1 play|expect refused => line 2: word at 2
@@ -361,6 +367,33 @@ not ok 12 - line 13: expect at least 3 from 0 to 39150 short
 # seen 0 from 0 to 39150
 # 12000 39150 complete 0>0 nack by tv out -
 1..12
+";
+
+/// A low of 3,300 is too short for a start bit, which has 3,500 to 3,900 (CEC 5.2.1). What an audit says of the line has no instant.
+pub(crate) const REMARKS: &str = "\
+pull 1000000 3300
+expect no-remark
+label start expect no-remark start-low
+expect no-remark bit-low
+expect no-remark *-low start low 3300
+expect no-remark start-low start low 3400
+expect none within 5 of start short
+end 2000000
+";
+
+pub(crate) const REMARKS_REPORT: &str = "\
+TAP version 13
+not ok 1 - line 2: expect no-remark
+#   start low 3300 not 3500..3900
+not ok 2 - line 3: label start expect no-remark start-low
+#   start low 3300 not 3500..3900
+ok 3 - line 4: expect no-remark bit-low
+not ok 4 - line 5: expect no-remark *-low start low 3300
+#   start low 3300 not 3500..3900
+ok 5 - line 6: expect no-remark start-low start low 3400
+not ok 6 - line 7: expect none within 5 of start short
+# no instant
+1..6
 ";
 
 /// An event that waits for the close of the first round, and labels on expectations, of which the last has no instant.

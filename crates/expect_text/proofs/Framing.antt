@@ -1,25 +1,23 @@
 -- Each text of the parts of a line is that of a frame, or of bits.
-use Rattle.std.proofs.Common.{◌≡◌, ℕ, ◌+◌, ◌*◌, ◌/◌, ◌%◌, ◌<◌, ◌≤◌, ◌==◌, nat_lt, nat_le, ◌&&◌, inl, inr, Bool, true, false, length, map, List, [], ◌∷◌, ◌++◌, Some, refl, sym, ap, subst, ◌∙◌, arith, slice_get, true≢false}
-use Rattle.std.specs.List.{list_all}
+use Rattle.std.proofs.Common.{◌≡◌, ℕ, ◌+◌, ◌*◌, ◌/◌, ◌%◌, ◌<◌, ◌≤◌, ◌==◌, nat_lt, nat_le, ◌&&◌, inl, inr, Bool, true, false, length, List, [], ◌∷◌, ◌++◌, refl, sym, ap, subst, ◌∙◌, arith, true≢false}
 use Rattle.std.proofs.lemmas.Grind.{common_steps}
 use Rattle.std.proofs.lemmas.List.{append_assoc}
-use Rattle.line_frames.specs.declared.Ending.{Ending}
 use Rattle.text_core.specs.Bytes.{are_bytes}
 use Rattle.message_table.specs.Table.{operands_of}
 use Rattle.message_text.specs.FrameText.{header_text, opcode_text, operands_text}
 use Rattle.message_text.specs.FrameReading.{is_frame}
-use Rattle.message_text.specs.ReadingText.{bit_digit, verdict_by}
+use Rattle.message_text.specs.ReadingText.{verdict_by}
 use Rattle.expect_text.specs.Parts.{IsTextBefore, IsTextOf, has}
-use Rattle.expect_text.specs.Said.{IsSaid, bits_parts, bitless_parts, ending_word, endings_of, has_bits, header_parts, literal, opcode_parts, verdict_parts}
+use Rattle.expect_text.specs.Said.{IsSaid, ending_word, header_parts, literal, opcode_parts, verdict_parts}
 use Rattle.expect_text.specs.Senders.{IsTail, Judged}
-use Rattle.expect_text.specs.declared.part.PatternPart.TheVariants.{Byte, One, Many, Opcode}
-use Rattle.expect_text.specs.declared.part.Class.TheVariants.{Hex, Directed, Bit}
+use Rattle.expect_text.specs.declared.part.PatternPart.TheVariants.{Byte, Opcode}
+use Rattle.expect_text.specs.declared.part.Class.TheVariants.{Hex, Directed}
 use Rattle.expect_text.proofs.Meeting.{append_none}
 use Rattle.expect_text.proofs.Readings.{digit}
-use Rattle.expect_text.proofs.Spelling.{IsEndingSpelled, IsFrameSpelled, IsPollSpelled, IsSpelled}
-use Rattle.expect_text.proofs.Truth.{and_both, first_of, second_of}
+use Rattle.expect_text.proofs.Spelling.{BitsBefore, IsEndingSpelled, IsFrameSpelled, IsPollSpelled, IsSpelled}
+use Rattle.expect_text.proofs.Truth.{and_both}
 use Rattle.expect_text.proofs.Wording.{digit_of}
-use Rattle.expect_text.proofs.Splits.{parted, halves, literal_was, below, up_to}
+use Rattle.expect_text.proofs.Splits.{parted, halves, below, up_to}
 use Rattle.expect_text.proofs.Rows.{operands_were}
 
 -- ---- lines
@@ -77,15 +75,15 @@ opcode_was is_broadcast code t s =
 regrouped : (h o p a : List ℕ) → (h ++ o) ++ (p ++ a) ≡ (h ++ (o ++ p)) ++ a
 regrouped h o p a = append_assoc h o (p ++ a) ∙ ap (λ (x : List ℕ). h ++ x) (sym (append_assoc o p a)) ∙ sym (append_assoc h (o ++ p) a)
 
-module _ (who : Judged) where
-  literal_before_was : (word text : List ℕ) → IsTextBefore (IsTail who) (literal word) text → (u : List ℕ) × IsTail who u × (text ≡ word ++ u)
-  literal_before_was [] text s = (text, s, refl)
-  literal_before_was (b ∷ bs) text s = let r = literal_before_was bs s.0 s.2 in (r.0, r.1, s.1 ∙ ap (λ (x : List ℕ). b ∷ x) r.2)
+literal_before_was : (Rest : List ℕ → Type 0) (word text : List ℕ) → IsTextBefore Rest (literal word) text → (u : List ℕ) × Rest u × (text ≡ word ++ u)
+literal_before_was Rest [] text s = (text, s, refl)
+literal_before_was Rest (b ∷ bs) text s = let r = literal_before_was Rest bs s.0 s.2 in (r.0, r.1, s.1 ∙ ap (λ (x : List ℕ). b ∷ x) r.2)
 
+module _ (who : Judged) where
   verdict_was : (is_broadcast last_bit : Bool) (text : List ℕ) → IsTextBefore (IsTail who) (verdict_parts is_broadcast last_bit) text
       → (u : List ℕ) × IsTail who u × (text ≡ verdict_by is_broadcast last_bit ++ u)
   unfolding verdict_parts
-  verdict_was is_broadcast last_bit text s = literal_before_was (verdict_by is_broadcast last_bit) text s
+  verdict_was is_broadcast last_bit text s = literal_before_was (IsTail who) (verdict_by is_broadcast last_bit) text s
 
   poll_said : (text : List ℕ) → IsPollSpelled who text → IsSaid who text
   poll_said text (is_broadcast, last_bit, s) =
@@ -128,58 +126,10 @@ module _ (who : Judged) where
         whole ∙ ap (λ (c : Bool). (header_text h.0 ++ ((32 ∷ opcode_text code) ++ operands_text (operands_of code) o.0)) ++ (verdict_by c last_bit ++ v.0)) (sym h.2),
       )
 
-  -- the bits of digits
-  bit_was : (b : ℕ) → has Bit b ≡ true → (bit : Bool) × (b ≡ bit_digit bit)
-  bit_was b h = by (b == 49) refl
-    where
-      by : (c : Bool) → (b == 49) ≡ c → (bit : Bool) × (b ≡ bit_digit bit)
-      by true e = let one : b ≡ 49 = grind (arith, common_steps) in (true, one)
-      by false e = let none : b ≡ 48 = grind (arith, common_steps) in (false, none)
-
-  bits_were : (digits : List ℕ) → list_all (has Bit) digits ≡ true → (bits : List Bool) × (digits ≡ map bit_digit bits)
-  bits_were [] h = ([], refl)
-  bits_were (b ∷ digits) h =
-      let first = bit_was b (first_of (has Bit b) (list_all (has Bit) digits) h) in
-      let rest = bits_were digits (second_of (has Bit b) (list_all (has Bit) digits) h) in
-      (first.0 ∷ rest.0, ap (λ (x : ℕ). x ∷ digits) first.1 ∙ ap (λ (x : List ℕ). bit_digit first.0 ∷ x) rest.1)
-
-  bitless_said : (ending : Ending) (place : ℕ) (text : List ℕ) → slice_get (endings_of who) place ≡ Some ending → IsTextBefore (IsTail who) (bitless_parts ending) text → IsSaid who text
-  unfolding bitless_parts
-  bitless_said ending place text e s =
-      let d = parted (IsTail who) (literal (ending_word ending)) (Byte 45 ∷ []) text s in
-      inr (
-        ending,
-        place,
-        [],
-        d.3.0,
-        e,
-        λ h. refl,
-        d.3.2,
-        d.4 ∙ ap (λ (x : List ℕ). x ++ d.1) (literal_was (ending_word ending) d.0 d.2) ∙ ap (λ (x : List ℕ). ending_word ending ++ x) d.3.1,
-      )
-
-  with_bits_said : (ending : Ending) (place : ℕ) (text : List ℕ) → slice_get (endings_of who) place ≡ Some ending → has_bits ending ≡ true → IsTextBefore (IsTail who) (bits_parts ending) text → IsSaid who text
-  unfolding bits_parts
-  with_bits_said ending place text e h s =
-      let d = parted (IsTail who) (literal (ending_word ending)) (One Bit ∷ Many Bit ∷ []) text s in
-      let b = bit_was d.3.0 d.3.2 in
-      let r = bits_were d.3.4.0 d.3.4.2 in
-      let digits : d.1 ≡ bit_digit b.0 ∷ (map bit_digit r.0 ++ d.3.4.1) =
-      d.3.3 ∙ ap (λ (x : List ℕ). d.3.0 ∷ x) (d.3.4.3 ∙ ap (λ (x : List ℕ). x ++ d.3.4.1) r.1) ∙ ap (λ (x : ℕ). x ∷ (map bit_digit r.0 ++ d.3.4.1)) b.1 in
-      inr (
-        ending,
-        place,
-        b.0 ∷ r.0,
-        d.3.4.1,
-        e,
-        λ none. absurd (true≢false (sym h ∙ none)),
-        d.3.4.4,
-        d.4 ∙ ap (λ (x : List ℕ). x ++ d.1) (literal_was (ending_word ending) d.0 d.2) ∙ ap (λ (x : List ℕ). ending_word ending ++ x) digits,
-      )
-
   ending_said : (text : List ℕ) → IsEndingSpelled who text → IsSaid who text
-  ending_said text (ending, place, e, inl s) = bitless_said ending place text e s
-  ending_said text (ending, place, e, inr s) = with_bits_said ending place text e s.0 s.1
+  ending_said text (ending, place, e, s) =
+      let d = literal_before_was (BitsBefore who ending) (ending_word ending) text s in
+      inr (ending, place, d.1.0, d.1.1, e, d.1.2, d.1.3, d.2 ∙ ap (λ (x : List ℕ). ending_word ending ++ x) d.1.4)
 
   pub spelled_is_said : (text : List ℕ) → IsSpelled who text → IsSaid who text
   spelled_is_said text (inl s) = poll_said text s

@@ -50,6 +50,11 @@ said_is Capture pattern =
     by false false false false true f g = refl
     by false false false false false f g = refl
 
+-- a capture alone has a reading that is not over
+pub open_is : (who : Judged) (pattern : List ℕ) (r : Bool) → who ≡ Capture → r ≡ is_ending_met who pattern Open → r ≡ is_open_met who pattern
+open_is (Run names) pattern r e h = cc
+open_is Capture pattern r e h = h
+
 module _ (who : Judged) (is_broadcast : Bool) (pattern : List ℕ) where
   under : (front rest : List PatternPart) → is_met end_met (front ++ Many Any ∷ []) pattern ≡ false → is_met (tail_met who) (front ++ rest) pattern ≡ false
   under front rest none = needs_front (tail_met who) (IsTail who) (tail_decides who) front rest pattern none

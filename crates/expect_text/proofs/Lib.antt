@@ -9,6 +9,8 @@ pub mod Sending
 pub mod Wording
 pub mod Fronts
 pub mod Spelling
+pub mod Digits
+pub mod Endings
 pub mod Saying
 pub mod Naming
 pub mod Marking

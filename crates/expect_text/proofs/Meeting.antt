@@ -18,7 +18,7 @@ use Rattle.expect_text.specs.declared.part.Worded.TheVariants.{Listed, Character
 use Rattle.expect_text.proofs.Below.{below_only, below_some}
 use Rattle.expect_text.proofs.Truth.{or_left, or_right, either, and_both, first_of, second_of}
 
-same_byte : (a b : ℕ) → (a == b) ≡ true → a ≡ b
+pub same_byte : (a b : ℕ) → (a == b) ≡ true → a ≡ b
 same_byte a b h = grind (arith, common_steps)
 
 itself : (b : ℕ) → (b == b) ≡ true
@@ -41,7 +41,7 @@ over f b bs word h = or_right (f (b ∷ bs)) (not (b == 32) && in_word f bs) (an
 starred : (p : ℕ) (ps text : List ℕ) → (p == 42) ≡ true → fits (p ∷ ps) text ≡ in_word (fits ps) text
 starred p ps text h = ap (λ (b : Bool). if b then in_word (fits ps) text else fits_byte p (fits ps) text) h
 
-plain : (p : ℕ) (ps text : List ℕ) → (p == 42) ≡ false → fits (p ∷ ps) text ≡ fits_byte p (fits ps) text
+pub plain : (p : ℕ) (ps text : List ℕ) → (p == 42) ≡ false → fits (p ∷ ps) text ≡ fits_byte p (fits ps) text
 plain p ps text h = ap (λ (b : Bool). if b then in_word (fits ps) text else fits_byte p (fits ps) text) h
 
 -- ---- what is met by some texts
@@ -203,7 +203,6 @@ a_byte classes.Directed = (48, refl, refl)
 a_byte classes.Digit = (48, refl, refl)
 a_byte classes.NonZero = (49, refl, refl)
 a_byte classes.UpToFive = (48, refl, refl)
-a_byte classes.Bit = (48, refl, refl)
 a_byte classes.Letter = (97, refl, refl)
 a_byte classes.Quotable = (97, refl, refl)
 a_byte classes.Any = (48, refl, refl)
@@ -259,7 +258,7 @@ a_spoilt Loudness = (127, omega arith, refl)
 not_so : (b : Bool) → b ≡ false → not b ≡ true
 not_so b h = ap not h
 
-is_not : (b : Bool) → not b ≡ true → b ≡ false
+pub is_not : (b : Bool) → not b ≡ true → b ≡ false
 is_not true h = absurd (true≢false (sym h))
 is_not false h = refl
 

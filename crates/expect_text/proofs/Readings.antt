@@ -1,5 +1,5 @@
 -- What the line of a reading says is a text of the parts of a line.
-use Rattle.std.proofs.Common.{◌≡◌, ℕ, zero, suc, ◌+◌, ◌-◌, ◌/◌, ◌%◌, ◌<◌, ◌≤◌, ◌==◌, nat_lt, nat_le, ◌&&◌, ◌⊎◌, inl, inr, Bool, true, false, if◌then◌else◌, codes, length, take, drop, map, List, [], ◌∷◌, ◌++◌, Option, Some, None, is_some, refl, sym, ap, subst, ◌∙◌, arith, rules, slice_get, true≢false}
+use Rattle.std.proofs.Common.{◌≡◌, ℕ, zero, suc, ◌+◌, ◌-◌, ◌/◌, ◌%◌, ◌<◌, ◌≤◌, ◌==◌, nat_lt, nat_le, ◌&&◌, ◌⊎◌, inl, inr, Bool, true, false, if◌then◌else◌, codes, length, take, drop, List, [], ◌∷◌, ◌++◌, Option, Some, None, is_some, refl, sym, ap, subst, ◌∙◌, arith, rules, slice_get, true≢false}
 use Rattle.std.proofs.lemmas.Bool.{cases_lt}
 use Rattle.std.specs.Prelude.{find, option_map, unwrap_or, decimal}
 use Rattle.std.specs.List.{flat_map, list_all}
@@ -19,17 +19,18 @@ use Rattle.message_table.specs.declared.operand.Operands.TheVariants as operands
 use Rattle.message_table.specs.declared.word_set.WordSet.{WordSet}
 use Rattle.message_text.specs.FrameText.{frame_text, header_text, is_letter, is_text, is_text_byte, opcode_text, operand_word, operand_words, operands_text, quoted_text, raw_text, spaced_word, with_both}
 use Rattle.message_text.specs.FrameReading.{is_frame}
-use Rattle.message_text.specs.ReadingText.{bit_digit, verdict_by}
+use Rattle.message_text.specs.ReadingText.{bits_text, verdict_by}
 use Rattle.expect_text.specs.Parts.{IsEnd, IsTextBefore, IsTextOf, has, has_word}
-use Rattle.expect_text.specs.Said.{FitsEnding, IsSaid, bits_said, frame_said, bitless_parts, bits_parts, ending_word, endings_of, has_bits, header_parts, hex_parts, literal, opcode_parts, operand_parts, operands_parts, quoted_parts, quoted_up_to, raw_but, raw_from, raw_parts, repeat, spoilt_at, spoilt_from, spoilt_operand, spoilt_parts, unworded_parts, verdict_parts, volume_parts, worded_parts}
+use Rattle.expect_text.specs.Bits.{FitsEnding}
+use Rattle.expect_text.specs.Said.{IsSaid, bits_said, frame_said, ending_word, endings_of, header_parts, hex_parts, literal, opcode_parts, operand_parts, operands_parts, quoted_parts, quoted_up_to, raw_but, raw_from, raw_parts, repeat, spoilt_at, spoilt_from, spoilt_operand, spoilt_parts, unworded_parts, verdict_parts, volume_parts, worded_parts}
 use Rattle.expect_text.specs.Senders.{IsTail, Judged}
 use Rattle.expect_text.specs.declared.part.PatternPart.{PatternPart}
 use Rattle.expect_text.specs.declared.part.PatternPart.TheVariants.{Byte, One, Many, Word, Unworded, Opcode}
 use Rattle.expect_text.specs.declared.part.Worded.{Worded as Kinds}
 use Rattle.expect_text.specs.declared.part.Worded.TheVariants.{Listed, Character, Quoted, Loudness}
-use Rattle.expect_text.specs.declared.part.Class.TheVariants.{Hex, Directed, Digit, NonZero, Bit, Quotable}
+use Rattle.expect_text.specs.declared.part.Class.TheVariants.{Hex, Directed, Digit, NonZero, Quotable}
 use Rattle.expect_text.proofs.Meeting.{append_none}
-use Rattle.expect_text.proofs.Spelling.{IsSpelled}
+use Rattle.expect_text.proofs.Spelling.{BitsBefore, IsSpelled}
 use Rattle.expect_text.proofs.Sending.{a_digit, a_nonzero, decimal_two}
 use Rattle.expect_text.proofs.Truth.{and_both, first_of, second_of}
 
@@ -725,9 +726,6 @@ operands_are form xs h few = by (operand_words form xs) refl
 
 -- ---- readings
 
-cons_none : {T : Type 0} (b : Bool) (bits : List Bool) → b ∷ bits ≡ [] → T
-cons_none b bits e = cc
-
 module _ (who : Judged) (tail : List ℕ) (is_tail : IsTail who tail) where
   verdict_is : (is_broadcast last_bit : Bool) → IsTextBefore (IsTail who) (verdict_parts is_broadcast last_bit) (verdict_by is_broadcast last_bit ++ tail)
   unfolding verdict_parts
@@ -771,34 +769,9 @@ module _ (who : Judged) (tail : List ℕ) (is_tail : IsTail who tail) where
       let few : length operands ≤ 14 = omega (arith, long) in
       opcode_is header code operands last_bit first second others few
 
-  all_bits : (bits : List Bool) → list_all (has Bit) (map bit_digit bits) ≡ true
-  all_bits [] = refl
-  all_bits (true ∷ bits) = all_bits bits
-  all_bits (false ∷ bits) = all_bits bits
-
-  a_bit : (bit : Bool) → has Bit (bit_digit bit) ≡ true
-  a_bit true = refl
-  a_bit false = refl
-
   bits_are : (ending : Ending) (place : ℕ) (bits : List Bool) → slice_get (endings_of who) place ≡ Some ending → FitsEnding ending bits → IsSpelled who (bits_said ending bits tail)
-  unfolding bits_parts bitless_parts
-  bits_are ending place [] e fits =
-      inr (inr (
-        ending,
-        place,
-        e,
-        inl (texts_after (IsTail who) (literal (ending_word ending)) (Byte 45 ∷ []) (ending_word ending) (45 ∷ tail) (literal_is (ending_word ending)) (tail, refl, is_tail)),
-      ))
-  bits_are ending place (b ∷ bits) e fits = inr (inr (ending, place, e, inr (told (has_bits ending) refl, said)))
-    where
-      told : (c : Bool) → has_bits ending ≡ c → has_bits ending ≡ true
-      told true h = h
-      told false h = cons_none b bits (fits h)
-
-      said : IsTextBefore (IsTail who) (literal (ending_word ending) ++ One Bit ∷ Many Bit ∷ []) (ending_word ending ++ (bit_digit b ∷ (map bit_digit bits ++ tail)))
-      said =
-          texts_after (IsTail who) (literal (ending_word ending)) (One Bit ∷ Many Bit ∷ []) (ending_word ending) (bit_digit b ∷ (map bit_digit bits ++ tail)) (literal_is (ending_word ending))
-          (bit_digit b, map bit_digit bits ++ tail, a_bit b, refl, (map bit_digit bits, tail, all_bits bits, refl, is_tail))
+  bits_are ending place bits e fits =
+      inr (inr (ending, place, e, literal_before (BitsBefore who ending) (ending_word ending) (bits_text bits ++ tail) (bits, tail, fits, is_tail, refl)))
 
 -- each is spelled by the parts of a line
 pub said_is_spelled : (who : Judged) (text : List ℕ) → IsSaid who text → IsSpelled who text

@@ -1,18 +1,20 @@
 -- A pattern is met by a text of the parts of a line exactly where it is found to be.
-use Rattle.std.proofs.Common.{◌≡◌, ℕ, ◌<◌, ◌&&◌, ◌||◌, inl, inr, Bool, true, false, List, ◌++◌, Some, slice_get}
+use Rattle.std.proofs.Common.{◌≡◌, ℕ, ◌<◌, ◌||◌, inl, inr, Bool, true, false, List, ◌++◌, Some, slice_get}
 use Rattle.std.specs.List.{list_any}
 use Rattle.line_frames.specs.declared.Ending.{Ending}
 use Rattle.message_table.specs.Table.{operands_of}
+use Rattle.expect_text.specs.Bits.{bits_met}
 use Rattle.expect_text.specs.Fits.{fits}
 use Rattle.expect_text.specs.Parts.{IsTextBefore, any_below, is_met}
-use Rattle.expect_text.specs.Said.{bitless_parts, bits_parts, endings_of, has_bits, header_parts, is_complete_met, is_ending_met, is_opcode_met, is_operand_met, is_poll_met, is_said, opcode_parts, operands_parts, verdict_parts}
+use Rattle.expect_text.specs.Said.{ending_word, endings_of, header_parts, is_complete_met, is_ending_met, is_opcode_met, is_operand_met, is_poll_met, is_said, literal, opcode_parts, operands_parts, verdict_parts}
 use Rattle.expect_text.specs.Senders.{Judged, IsTail, tail_met}
 use Rattle.expect_text.specs.declared.part.PatternPart.{PatternPart}
 use Rattle.expect_text.proofs.Below.{below_only, below_some}
 use Rattle.expect_text.proofs.Meeting.{Decides, any_only, any_some, decides}
-use Rattle.expect_text.proofs.Truth.{and_both, either, first_of, or_left, or_right, second_of}
+use Rattle.expect_text.proofs.Truth.{either, or_left, or_right}
 use Rattle.expect_text.proofs.Sending.{tail_decides}
-use Rattle.expect_text.proofs.Spelling.{IsEndingSpelled, IsFrameSpelled, IsPollSpelled, IsSpelled}
+use Rattle.expect_text.proofs.Endings.{bits_decide}
+use Rattle.expect_text.proofs.Spelling.{BitsBefore, IsEndingSpelled, IsFrameSpelled, IsPollSpelled, IsSpelled}
 
 -- ---- a pattern
 
@@ -61,12 +63,11 @@ module _ (who : Judged) (pattern : List ℕ) where
       complete_of is_broadcast (opcode_of is_broadcast code l (operand_of is_broadcast last_bit code
       (any_only (λ (operands : List PatternPart). is_met (tail_met who) (opcode_parts is_broadcast code ++ (operands ++ verdict_parts is_broadcast last_bit)) pattern) (operands_parts (operands_of code)) place operands e met)))
 
+  ending_line : (ending : Ending) → Decides (is_met (bits_met ending (tail_met who)) (literal (ending_word ending))) (IsTextBefore (BitsBefore who ending) (literal (ending_word ending)))
+  ending_line ending = decides (bits_met ending (tail_met who)) (BitsBefore who ending) (bits_decide who ending) (literal (ending_word ending))
+
   ending_only : (text : List ℕ) → IsEndingSpelled who text → fits pattern text ≡ true → is_said who pattern ≡ true
-  ending_only text (ending, place, e, inl t) f =
-      ending_at place ending e (or_right (has_bits ending && is_met (tail_met who) (bits_parts ending) pattern) (is_met (tail_met who) (bitless_parts ending) pattern) ((line (bitless_parts ending)).only pattern text t f))
-  ending_only text (ending, place, e, inr t) f =
-      ending_at place ending e (or_left (has_bits ending && is_met (tail_met who) (bits_parts ending) pattern) (is_met (tail_met who) (bitless_parts ending) pattern)
-      (and_both (has_bits ending) (is_met (tail_met who) (bits_parts ending) pattern) t.0 ((line (bits_parts ending)).only pattern text t.1 f)))
+  ending_only text (ending, place, e, t) f = ending_at place ending e ((ending_line ending).only pattern text t f)
 
   pub said_only : (text : List ℕ) → IsSpelled who text → fits pattern text ≡ true → is_said who pattern ≡ true
   said_only text (inl t) f = poll_only text t f
@@ -98,11 +99,7 @@ module _ (who : Judged) (pattern : List ℕ) where
       (λ m. let k = below_some (is_opcode_met who is_broadcast pattern) 256 m in opcode_some is_broadcast k.0 k.1 k.2))
 
   ending_some : (place : ℕ) (ending : Ending) → slice_get (endings_of who) place ≡ Some ending → is_ending_met who pattern ending ≡ true → Met
-  ending_some place ending is h =
-      let bits = is_met (tail_met who) (bits_parts ending) pattern in
-      either (has_bits ending && bits) (is_met (tail_met who) (bitless_parts ending) pattern) h
-      (λ e. let r = (line (bits_parts ending)).some pattern (second_of (has_bits ending) bits e) in (r.0, inr (inr (ending, place, is, inr (first_of (has_bits ending) bits e, r.1))), r.2))
-      (λ e. let r = (line (bitless_parts ending)).some pattern e in (r.0, inr (inr (ending, place, is, inl r.1)), r.2))
+  ending_some place ending is h = let r = (ending_line ending).some pattern h in (r.0, inr (inr (ending, place, is, r.1)), r.2)
 
   pub said_some : is_said who pattern ≡ true → Met
   unfolding is_said

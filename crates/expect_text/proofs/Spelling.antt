@@ -1,9 +1,11 @@
 -- The texts of the parts of a line: those by which a pattern is found to be met.
-use Rattle.std.proofs.Common.{◌≡◌, ℕ, ◌<◌, ◌⊎◌, true, Bool, List, ◌++◌, slice_get, Some}
+use Rattle.std.proofs.Common.{◌≡◌, ℕ, ◌<◌, ◌⊎◌, Bool, List, ◌++◌, slice_get, Some}
 use Rattle.line_frames.specs.declared.Ending.{Ending}
 use Rattle.message_table.specs.Table.{operands_of}
+use Rattle.message_text.specs.ReadingText.{bits_text}
+use Rattle.expect_text.specs.Bits.{FitsEnding}
 use Rattle.expect_text.specs.Parts.{IsTextBefore}
-use Rattle.expect_text.specs.Said.{bitless_parts, bits_parts, endings_of, has_bits, header_parts, opcode_parts, operands_parts, verdict_parts}
+use Rattle.expect_text.specs.Said.{ending_word, endings_of, header_parts, literal, opcode_parts, operands_parts, verdict_parts}
 use Rattle.expect_text.specs.Senders.{Judged, IsTail}
 use Rattle.expect_text.specs.declared.part.PatternPart.{PatternPart}
 
@@ -16,9 +18,13 @@ IsFrameSpelled who text = (is_broadcast last_bit : Bool) × (code place : ℕ) �
     × (slice_get (operands_parts (operands_of code)) place ≡ Some operands)
     × IsTextBefore (IsTail who) (opcode_parts is_broadcast code ++ (operands ++ verdict_parts is_broadcast last_bit)) text
 
+-- what is shown of bits, and then who sent
+abbrev pub BitsBefore : Judged → Ending → List ℕ → Type 0
+BitsBefore who ending text = (bits : List Bool) × (tail : List ℕ) × FitsEnding ending bits × IsTail who tail × (text ≡ bits_text bits ++ tail)
+
 abbrev pub IsEndingSpelled : Judged → List ℕ → Type 0
 IsEndingSpelled who text = (ending : Ending) × (place : ℕ) × (slice_get (endings_of who) place ≡ Some ending)
-    × (IsTextBefore (IsTail who) (bitless_parts ending) text ⊎ ((has_bits ending ≡ true) × IsTextBefore (IsTail who) (bits_parts ending) text))
+    × IsTextBefore (BitsBefore who ending) (literal (ending_word ending)) text
 
 abbrev pub IsSpelled : Judged → List ℕ → Type 0
 IsSpelled who text = IsPollSpelled who text ⊎ IsFrameSpelled who text ⊎ IsEndingSpelled who text

@@ -12,11 +12,12 @@ use Rattle.expect_text.specs.Line.{label_in, unlabelled_words, is_event, is_labe
 use Rattle.expect_text.specs.Fault.{after_label}
 use Rattle.text_core.specs.At.{at_line, at_word}
 use Rattle.expect_text.specs.Form.{ExpectLine, ExpectWindow, form_in, in_window}
+use Rattle.expect_text.specs.Remarks.{is_remark_called}
 use Rattle.expect_text.specs.Names.{NamedPattern, is_meetable, named_in, unmet_word}
 use Rattle.expect_text.specs.Senders.{Judged}
 use Rattle.expect_text.specs.Senders.Judged.{Run, Capture}
 use Rattle.expect_text.specs.StateTest.{strange_word}
-use Rattle.expect_text.specs.Form.ExpectLine.{Other, Rounds, State, Refused}
+use Rattle.expect_text.specs.Form.ExpectLine.{Other, Rounds, State, Refused, Unremarked}
 use Rattle.expect_text.specs.Form.ExpectWindow.{Within, From}
 use Rattle.text_core.specs.declared.at.AtWord.{AtWord}
 use Rattle.expect_text.specs.declared.form.ExpectCause.{ExpectCause}
@@ -161,11 +162,17 @@ strange_fault (Some word) = Some (at_word word Unmet)
 abbrev pub state_fault : List ℕ → ℕ → List (List ℕ) → Option (AtWord ExpectCause)
 state_fault script time words = if ends_before script time then Some (at_word 2 Order) else strange_fault (strange_word words)
 
+-- no remark is called so
+abbrev pub remark_fault : Option (List ℕ) → Option (AtWord ExpectCause)
+remark_fault None = None
+remark_fault (Some pattern) = if is_remark_called pattern then None else Some (at_word 2 Unmet)
+
 abbrev pub form_fault : Judged → List ℕ → ℕ → ExpectLine → Option (AtWord ExpectCause)
 form_fault who script number Other = None
 form_fault who script number (Rounds quantity window pattern) = or_fault (window_fault script number quantity window) (pattern_fault who quantity pattern)
 form_fault who script number (State time device words) = state_fault script time words
 form_fault who script number (Refused name word) = refusal_fault script number name word
+form_fault who script number (Unremarked pattern) = remark_fault pattern
 
 -- a name of a pattern that is not declared, and then one after it
 abbrev pub is_strange_name : List ℕ → Option NamedPattern → Bool
@@ -182,6 +189,7 @@ is_strange topology Other = false
 is_strange topology (Rounds quantity window pattern) = has_strange_name topology (named_in pattern)
 is_strange topology (State time device words) = not (is_declared topology device)
 is_strange topology (Refused name word) = false
+is_strange topology (Unremarked pattern) = false
 
 -- the word that names it
 abbrev pub strange_at : ExpectLine → AtWord ExpectCause
@@ -189,6 +197,7 @@ strange_at Other = at_word 3 Name
 strange_at (Rounds quantity window pattern) = in_window quantity 4 Name
 strange_at (State time device words) = at_word 3 Name
 strange_at (Refused name word) = at_word 3 Name
+strange_at (Unremarked pattern) = at_word 3 Name
 
 abbrev pub fault_by : Judged → List ℕ → List ℕ → ℕ → Option (List ℕ) → Result ExpectLine (AtWord ExpectCause) → Option (AtWord ExpectCause)
 fault_by who topology script number label (Err fault) = Some (after_label label fault)

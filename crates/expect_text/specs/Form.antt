@@ -1,4 +1,4 @@
--- What the line of an expectation says (own): `expect HOW WINDOW PATTERN`, `expect state T DEVICE WORD..`, with `not` before the words or without it, `expect refused NAME WORD`,
+-- What the line of an expectation says (own): `expect HOW WINDOW PATTERN`, `expect state T DEVICE WORD..`, with `not` before the words or without it, `expect no-remark`, with a pattern or without one, `expect refused NAME WORD`,
 -- or `expect refused WORD` below the line of an event, where HOW is nothing, `none`, `once`, `exactly N`, `at most N` or `at least N`, and WINDOW is `within D of NAME`
 -- or `from T to U`. Times are in microseconds.
 use Rattle.std.specs.Prelude.{◌≡◌, ℕ, ◌+◌, ◌-◌, ◌^◌, ◌≤◌, ◌==◌, nat_lt, nat_le, ◌&&◌, ◌||◌, not, Bool, if◌then◌else◌, codes, length, filter, slice_index, List, [], ◌∷◌, Option, Some, None, Result, Ok, Err}
@@ -27,12 +27,13 @@ pub data ExpectWindow : Type 0 where
   From : ℕ → ℕ → ExpectWindow
 
 -- a line that is no expectation, one of rounds, one of a device's state at a time, or one of an event that is refused with a word: that of a
--- label, or else of the line above
+-- label, or else of the line above; or one of the remarks of the audit, of which none meets a pattern, or there is none
 pub data ExpectLine : Type 0 where
   Other : ExpectLine
   Rounds : Quantity → ExpectWindow → List ℕ → ExpectLine
   State : ℕ → List ℕ → List (List ℕ) → ExpectLine
   Refused : Option (List ℕ) → List ℕ → ExpectLine
+  Unremarked : Option (List ℕ) → ExpectLine
 
 -- ---- without where the texts lie in memory
 
@@ -45,6 +46,7 @@ form_as forms.Other = Other
 form_as (forms.Rounds quantity window pattern) = Rounds quantity (window_of window) pattern.now
 form_as (forms.State time device words) = State time device.now (words_of words.now)
 form_as (forms.Refused label word) = Refused (option_copied label) word.now
+form_as (forms.Unremarked pattern) = Unremarked (option_copied pattern)
 
 -- ---- numbers
 
@@ -237,12 +239,21 @@ refused_in (word ∷ []) = Ok (Refused None word)
 refused_in (name ∷ word ∷ []) = Ok (Refused (Some name) word)
 refused_in (name ∷ word ∷ more ∷ words) = Err (at_word 4 Word)
 
+-- no word, or a pattern
+abbrev pub unremarked_by : List ℕ → Result ExpectLine (AtWord ExpectCause)
+unremarked_by pattern = if is_pattern pattern then Ok (Unremarked (Some pattern)) else Err (at_word 2 Pattern)
+
+abbrev pub unremarked_in : List (List ℕ) → Result ExpectLine (AtWord ExpectCause)
+unremarked_in [] = Ok (Unremarked None)
+unremarked_in (word ∷ words) = unremarked_by (text_of (word ∷ words))
+
 -- the words after `expect`
 abbrev pub expectation_in : List (List ℕ) → Result ExpectLine (AtWord ExpectCause)
 expectation_in [] = Err (at_word 1 Word)
 expectation_in (how ∷ words) =
     if bytes_eq how (codes "refused") then refused_in words
     else if bytes_eq how (codes "state") then state_in words
+    else if bytes_eq how (codes "no-remark") then unremarked_in words
     else if bytes_eq how (codes "none") then rounds_in Never words
     else if bytes_eq how (codes "once") then rounds_in Once words
     else if bytes_eq how (codes "exactly") then counted_in Exactly words
@@ -260,6 +271,7 @@ IsEarly forms.Other = Unit {0}
 IsEarly (forms.Rounds quantity window pattern) = Unit {0}
 IsEarly (forms.State time device words) = time ≤ latest_event
 IsEarly (forms.Refused label word) = Unit {0}
+IsEarly (forms.Unremarked pattern) = Unit {0}
 
 -- what is read is what the words say
 abbrev pub IsForm : Result ExpectLine (AtWord ExpectCause) → Result FormRead (AtWord ExpectCause) → Type 0

@@ -1,5 +1,7 @@
 pub mod Fits
+pub mod Bits
 pub mod Parts
+pub mod Remarks
 pub mod Senders
 pub mod StateWords
 pub mod StateTest

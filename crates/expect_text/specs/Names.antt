@@ -6,7 +6,7 @@ use Rattle.text_core.specs.Lines.{lines_of}
 use Rattle.text_core.specs.Words.{words_of}
 use Rattle.expect_text.specs.Fits.{fits}
 use Rattle.expect_text.specs.Form.{ExpectLine, form_in}
-use Rattle.expect_text.specs.Form.ExpectLine.{Other, Rounds, State, Refused}
+use Rattle.expect_text.specs.Form.ExpectLine.{Other, Rounds, State, Refused, Unremarked}
 use Rattle.expect_text.specs.Line.{unlabelled_words}
 use Rattle.expect_text.specs.Said.{is_said}
 use Rattle.expect_text.specs.Senders.{Judged}
@@ -126,6 +126,7 @@ form_has_name (Ok Other) = false
 form_has_name (Ok (Rounds quantity window pattern)) = is_some (named_in pattern)
 form_has_name (Ok (State time device words)) = false
 form_has_name (Ok (Refused name word)) = false
+form_has_name (Ok (Unremarked pattern)) = false
 
 abbrev pub has_name : List ℕ → Bool
 has_name line = form_has_name (form_in (unlabelled_words (words_of line)))

@@ -7,7 +7,7 @@ use Rattle.message_table.specs.declared.word_set.WordSet.{WordSet}
 use Rattle.message_text.specs.FrameText.{is_letter, is_text_byte, opcode_text}
 use Rattle.expect_text.specs.Fits.{fits}
 use Rattle.expect_text.specs.declared.part.Class.{Class}
-use Rattle.expect_text.specs.declared.part.Class.TheVariants.{Hex, Directed, Digit, NonZero, UpToFive, Bit, Letter, Quotable, Any}
+use Rattle.expect_text.specs.declared.part.Class.TheVariants.{Hex, Directed, Digit, NonZero, UpToFive, Letter, Quotable, Any}
 use Rattle.expect_text.specs.declared.part.PatternPart.{PatternPart}
 use Rattle.expect_text.specs.declared.part.PatternPart.TheVariants.{Byte, One, Many, Word, Unworded, Opcode}
 use Rattle.expect_text.specs.declared.part.Worded.{Worded}
@@ -23,7 +23,6 @@ has Directed b = is_digit b || (nat_le 97 b && nat_le b 101)
 has Digit b = is_digit b
 has NonZero b = nat_le 49 b && nat_le b 57
 has UpToFive b = nat_le 48 b && nat_le b 53
-has Bit b = nat_le 48 b && nat_le b 49
 has Letter b = is_letter b
 has Quotable b = is_text_byte b
 has Any b = true

@@ -1,7 +1,7 @@
 -- What the line of a round can say, and the patterns that none meets. A complete reading shows its frame (CEC 6: header, opcode,
 -- operands) and its verdict, another one its bits; then stands who was still sending at the end, and who had stopped. How each is
 -- spelled is this profile's own. The line of a reading of a capture is the front of such a line.
-use Rattle.std.specs.Prelude.{◌≡◌, ℕ, zero, suc, ◌+◌, ◌-◌, ◌⊎◌, ◌&&◌, ◌||◌, true, false, Bool, if◌then◌else◌, codes, List, [], ◌∷◌, ◌++◌, map, slice_get, Some}
+use Rattle.std.specs.Prelude.{◌≡◌, ℕ, zero, suc, ◌+◌, ◌-◌, ◌⊎◌, ◌||◌, true, false, Bool, if◌then◌else◌, codes, List, [], ◌∷◌, ◌++◌, map, slice_get, Some}
 use Rattle.std.specs.List.{list_any}
 use Rattle.line_frames.specs.declared.Ending.{Ending}
 use Rattle.line_frames.specs.declared.Ending.TheVariants.{Short, Silent, BadStart, Long, Open}
@@ -14,15 +14,16 @@ use Rattle.message_table.specs.declared.operand.Operands.TheVariants as operands
 use Rattle.message_text.specs.FrameReading.{is_frame}
 use Rattle.message_text.specs.FrameText.{frame_text}
 use Rattle.message_text.specs.ReadingText.{bits_text, is_broadcast as is_to_all, verdict_by}
+use Rattle.expect_text.specs.Bits.{FitsEnding, bits_met}
 use Rattle.expect_text.specs.Parts.{any_below, is_met}
 use Rattle.expect_text.specs.Senders.{Judged, IsTail, judged_as, tail_met}
 use Rattle.expect_text.specs.Senders.Judged.{Run, Capture}
 use Rattle.expect_text.specs.declared.hole.Hole.{Hole}
 use Rattle.expect_text.specs.declared.part.PatternPart.{PatternPart}
-use Rattle.expect_text.specs.declared.part.PatternPart.TheVariants.{Byte, One, Many, Word, Unworded, Opcode}
+use Rattle.expect_text.specs.declared.part.PatternPart.TheVariants.{Byte, One, Word, Unworded, Opcode}
 use Rattle.expect_text.specs.declared.part.Worded.{Worded}
 use Rattle.expect_text.specs.declared.part.Worded.TheVariants.{Listed, Character, Quoted, Loudness}
-use Rattle.expect_text.specs.declared.part.Class.TheVariants.{Hex, Directed, Digit, NonZero, Bit, Letter, Quotable}
+use Rattle.expect_text.specs.declared.part.Class.TheVariants.{Hex, Directed, Digit, NonZero, Letter, Quotable}
 
 abbrev pub literal : List ℕ → List PatternPart
 literal text = map Byte text
@@ -136,28 +137,18 @@ verdict_parts is_broadcast last_bit = literal (verdict_by is_broadcast last_bit)
 unfoldable pub opcode_parts : Bool → ℕ → List PatternPart
 opcode_parts is_broadcast code = header_parts is_broadcast ++ Byte 32 ∷ Opcode code ∷ []
 
--- the endings of readings that are not complete: a bad start tells no bits, and a reading of a capture alone may be open
+-- the endings of readings that are not complete: a reading of a capture alone may be open
 abbrev pub endings_of : Judged → List Ending
 endings_of (Run names) = Short ∷ Silent ∷ BadStart ∷ Long ∷ []
 endings_of Capture = Short ∷ Silent ∷ BadStart ∷ Long ∷ Open ∷ []
 
-abbrev pub has_bits : Ending → Bool
-has_bits BadStart = false
-has_bits _ = true
-
--- the word of an ending and the bits that were read, `-` for none
+-- the word of an ending; the bits that were read stand after it, `-` for none
 abbrev pub ending_word : Ending → List ℕ
 ending_word Short = codes "short "
 ending_word Silent = codes "silent "
 ending_word BadStart = codes "bad-start "
 ending_word Long = codes "long "
 ending_word _ = codes "open "
-
-unfoldable pub bitless_parts : Ending → List PatternPart
-bitless_parts ending = literal (ending_word ending) ++ Byte 45 ∷ []
-
-unfoldable pub bits_parts : Ending → List PatternPart
-bits_parts ending = literal (ending_word ending) ++ One Bit ∷ Many Bit ∷ []
 
 -- ---- what is said
 
@@ -168,10 +159,6 @@ frame_said frame last_bit tail = frame_text frame ++ (verdict_by (is_to_all (Som
 -- The bits of a reading that is not complete, and then who sent.
 abbrev pub bits_said : Ending → List Bool → List ℕ → List ℕ
 bits_said ending bits tail = ending_word ending ++ (bits_text bits ++ tail)
-
--- a bad start has no bits
-abbrev pub FitsEnding : Ending → List Bool → Type 0
-FitsEnding ending bits = has_bits ending ≡ false → bits ≡ []
 
 abbrev pub IsFrameSaid : Judged → List ℕ → Type 0
 IsFrameSaid who text = (frame : List ℕ) × (last_bit : Bool) × (tail : List ℕ) × (is_frame frame ≡ true) × IsTail who tail × (text ≡ frame_said frame last_bit tail)
@@ -205,7 +192,7 @@ is_complete_met who pattern is_broadcast =
 
 -- by a reading with this ending
 abbrev pub is_ending_met : Judged → List ℕ → Ending → Bool
-is_ending_met who pattern ending = (has_bits ending && is_met (tail_met who) (bits_parts ending) pattern) || is_met (tail_met who) (bitless_parts ending) pattern
+is_ending_met who pattern ending = is_met (bits_met ending (tail_met who)) (literal (ending_word ending)) pattern
 
 -- by a reading that is not over
 abbrev pub is_open_met : Judged → List ℕ → Bool

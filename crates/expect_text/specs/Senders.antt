@@ -3,6 +3,7 @@
 -- such words.
 use Rattle.std.specs.Prelude.{◌≡◌, ℕ, ◌+◌, ◌≤◌, ◌⊎◌, ◌||◌, Bool, false, codes, decimal, length, map, List, [], ◌∷◌, ◌++◌}
 use Rattle.std.specs.List.{flat_map, list_any}
+use Rattle.expect_text.specs.Bits.{bits_met}
 use Rattle.expect_text.specs.Parts.{after_text, end_met, is_met}
 use Rattle.expect_text.specs.declared.part.PatternPart.{PatternPart}
 use Rattle.expect_text.specs.declared.part.PatternPart.TheVariants.{Byte, One}
@@ -97,6 +98,7 @@ judged_as judged.Capture = Capture
 abbrev pub after_met : After → List ℕ → Bool
 after_met after.End pattern = end_met pattern
 after_met (after.Tail who) pattern = tail_met (judged_as who) pattern
+after_met (after.Bits ending who) pattern = bits_met ending (tail_met (judged_as who)) pattern
 after_met (after.Outs room) pattern = out_met (map (λ n. n.now) room.now) pattern
 after_met (after.By name others room) pattern = sender_met name.now (more_met sender_met (map (λ n. n.now) others.now) (out_met (map (λ n. n.now) room.now))) pattern
 after_met (after.MoreBy others room) pattern = more_met sender_met (map (λ n. n.now) others.now) (out_met (map (λ n. n.now) room.now)) pattern
@@ -116,6 +118,7 @@ judged_weight Capture = 1
 abbrev pub after_weight : After → ℕ
 after_weight after.End = 0
 after_weight (after.Tail who) = 1 + judged_weight (judged_as who)
+after_weight (after.Bits ending who) = 2 + judged_weight (judged_as who)
 after_weight (after.Outs room) = 25 + names_weight (map (λ n. n.now) room.now)
 after_weight (after.By name others room) = 75 + length name.now + names_weight (map (λ n. n.now) others.now) + names_weight (map (λ n. n.now) room.now)
 after_weight (after.MoreBy others room) = 70 + names_weight (map (λ n. n.now) others.now) + names_weight (map (λ n. n.now) room.now)

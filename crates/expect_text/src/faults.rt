@@ -9,7 +9,7 @@ ghost use Rattle.expect_text.specs.Names.{named_as};
 ghost use Rattle.expect_text.specs.Senders.{judged_as};
 ghost use Rattle.text_core.specs.Lines.{lines_of};
 ghost use Rattle.expect_text.specs.StateTest.{strange_word};
-ghost use Rattle.expect_text.specs.Faults.{declared_in, end_in, ends_before, first_fault, fault_on, faults_from, form_fault, has_strange_name, is_above, is_declared, is_line, is_named, is_own_label, is_past, is_refusal, is_strange, is_strange_name, labelled_form, names_of, or_fault, pattern_fault, readings_fault, refusal_fault, refusal_word, state_fault, strange_at, strange_fault, window_fault};
+ghost use Rattle.expect_text.specs.Faults.{declared_in, end_in, ends_before, first_fault, fault_on, faults_from, form_fault, has_strange_name, is_above, is_declared, is_line, is_named, is_own_label, is_past, is_refusal, is_strange, is_strange_name, labelled_form, names_of, or_fault, pattern_fault, readings_fault, refusal_fault, refusal_word, remark_fault, state_fault, strange_at, strange_fault, window_fault};
 
 use crate::fault::after_label;
 use crate::form::{ExpectCause, ExpectLine, ExpectWindow, Quantity, form_in, in_window};
@@ -18,6 +18,7 @@ use crate::line::{is_labelable, unlabelled};
 use crate::named::NamedPattern;
 use crate::names::{is_meetable, named_in, unmet_word};
 use crate::part::Judged;
+use crate::remarks::is_remark_called;
 use crate::state_words::strange_word;
 use arrayvec::ArrayVec;
 use std::alloc::{AllocError, Global};
@@ -258,6 +259,23 @@ fn state_fault(script: &[u8], time: u64, words: &[u8]) -> Option<AtWord<ExpectCa
     }
 }
 
+// No remark is called so.
+fn remark_fault(pattern: Option<&[u8]>) -> Option<AtWord<ExpectCause>>
+    ensures value { result ≡ remark_fault (option_copied pattern.entry) }
+    ensures bounded { IfSome result IsNear }
+{
+    match pattern {
+        None => None,
+        Some(pattern) => {
+            if is_remark_called(pattern) {
+                None
+            } else {
+                Some(at_word(2, ExpectCause::Unmet))
+            }
+        }
+    }
+}
+
 fn form_fault(
     who: Judged<'_>,
     labels: &Labels<'_>,
@@ -276,6 +294,7 @@ fn form_fault(
         } => rounds_fault(who, labels, number, quantity, window, pattern),
         ExpectLine::State { time, words, .. } => state_fault(labels.script, time, words),
         ExpectLine::Refused { label, word } => refusal_fault(labels, number, label, word),
+        ExpectLine::Unremarked { pattern } => remark_fault(pattern),
     }
 }
 
@@ -308,6 +327,7 @@ fn is_strange(topology: &[u8], form: ExpectLine) -> bool
         ExpectLine::Rounds { pattern, .. } => has_strange_name(topology, named_in(pattern)),
         ExpectLine::State { device, .. } => !is_declared(topology, device),
         ExpectLine::Refused { .. } => false,
+        ExpectLine::Unremarked { .. } => false,
     }
 }
 
@@ -321,6 +341,7 @@ fn strange_at(form: ExpectLine) -> AtWord<ExpectCause>
         ExpectLine::Rounds { quantity, .. } => in_window(quantity, 4, ExpectCause::Name),
         ExpectLine::State { .. } => at_word(3, ExpectCause::Name),
         ExpectLine::Refused { .. } => at_word(3, ExpectCause::Name),
+        ExpectLine::Unremarked { .. } => at_word(3, ExpectCause::Name),
     }
 }
 

@@ -5,7 +5,7 @@ ghost use Rattle.text_core.specs.Words.{words_after, words_of};
 ghost use Rattle.text_core.specs.Number.{number_of};
 ghost use Rattle.expect_text.specs.Fault.{IsNear};
 ghost use Rattle.expect_text.specs.declared.form.Quantity.TheVariants.{Counted};
-ghost use Rattle.expect_text.specs.Form.{AreParts, IsEarly, IsForm, allows, between_by, bounded_in, count_number, counted_by, counted_in, empty_from, exact_number, expectation_in, form_in, in_window, is_allowed, is_open_ended, lacking, or_lacking, is_pattern, number_word, parts_as, pattern_by, pattern_in, refused_in, rounds_between, rounds_in, second_in, stars, state_at_time, state_in, uncounted, uncounted_by, values_around, window_word, within, within_by};
+ghost use Rattle.expect_text.specs.Form.{AreParts, IsEarly, IsForm, allows, between_by, bounded_in, count_number, counted_by, counted_in, empty_from, exact_number, expectation_in, form_in, in_window, is_allowed, is_open_ended, lacking, or_lacking, is_pattern, number_word, parts_as, pattern_by, pattern_in, refused_in, rounds_between, rounds_in, second_in, stars, state_at_time, state_in, uncounted, uncounted_by, unremarked_by, unremarked_in, values_around, window_word, within, within_by};
 
 use line_wave::LATEST_EVENT;
 use text_core::{AtWord, at_word, byte_at, first_word, number_in};
@@ -122,6 +122,10 @@ pub enum ExpectLine<'a> {
     Refused {
         label: Option<&'a [u8]>,
         word: &'a [u8],
+    },
+    /// No remark of the audit of the run's line meets the pattern; without one there is no remark at all.
+    Unremarked {
+        pattern: Option<&'a [u8]>,
     },
 }
 
@@ -582,6 +586,31 @@ fn refused_in<'a>(rest: Option<&'a [u8]>) -> Result<ExpectLine<'a>, AtWord<Expec
     }
 }
 
+fn unremarked_by<'a>(pattern: &'a [u8]) -> Result<ExpectLine<'a>, AtWord<ExpectCause>>
+    ensures form { IsForm (unremarked_by pattern.now) result }
+    ensures early { IfOk result IsEarly }
+    ensures bounded { IfErr result IsNear }
+{
+    if is_pattern(pattern) {
+        Ok(ExpectLine::Unremarked {
+            pattern: Some(pattern),
+        })
+    } else {
+        Err(at_word(2, ExpectCause::Pattern))
+    }
+}
+
+fn unremarked_in<'a>(rest: Option<&'a [u8]>) -> Result<ExpectLine<'a>, AtWord<ExpectCause>>
+    ensures form { IsForm (unremarked_in (words_after (option_copied rest.entry))) result }
+    ensures early { IfOk result IsEarly }
+    ensures bounded { IfErr result IsNear }
+{
+    match rest {
+        None => Ok(ExpectLine::Unremarked { pattern: None }),
+        Some(pattern) => unremarked_by(pattern),
+    }
+}
+
 fn expectation_in<'a>(rest: Option<&'a [u8]>) -> Result<ExpectLine<'a>, AtWord<ExpectCause>>
     ensures form { IsForm (expectation_in (words_after (option_copied rest.entry))) result }
     ensures early { IfOk result IsEarly }
@@ -595,6 +624,8 @@ fn expectation_in<'a>(rest: Option<&'a [u8]>) -> Result<ExpectLine<'a>, AtWord<E
         refused_in(others)
     } else if how == b"state".as_slice() {
         state_in(others)
+    } else if how == b"no-remark".as_slice() {
+        unremarked_in(others)
     } else if how == b"none".as_slice() {
         rounds_in(Quantity::Never, others)
     } else if how == b"once".as_slice() {

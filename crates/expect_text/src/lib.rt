@@ -1,6 +1,7 @@
 //! What is expected of a run: labels and expectations in a script, patterns, and the script without them.
 #![tactic(auto)]
 
+mod bits;
 mod fault;
 mod faults;
 mod form;
@@ -13,6 +14,7 @@ mod names;
 mod part;
 mod pattern;
 mod range;
+mod remarks;
 mod said;
 mod state_words;
 
@@ -32,5 +34,6 @@ pub use names::{has_names, is_meetable, meets, named_in};
 pub use part::Judged;
 pub use pattern::fits;
 pub use range::RangeCause;
+pub use remarks::is_remark_called;
 pub use said::is_said;
 pub use state_words::{StateField, is_state_word};

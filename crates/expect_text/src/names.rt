@@ -269,6 +269,7 @@ fn has_name(line: &[u8]) -> bool
             ExpectLine::Rounds { pattern, .. } => named_in(pattern).is_some(),
             ExpectLine::State { .. } => false,
             ExpectLine::Refused { .. } => false,
+            ExpectLine::Unremarked { .. } => false,
         },
     }
 }

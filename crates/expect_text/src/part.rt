@@ -3,13 +3,16 @@ ghost use Rattle.std.specs.Prelude.{◌≡◌, ◌+◌, ◌∷◌, [], is_some, 
 ghost use Rattle.text_core.specs.Piece.{hex_text};
 ghost use Rattle.message_table.specs.WordSets.{word_in_code};
 ghost use Rattle.message_text.specs.FrameText.{opcode_text};
+ghost use Rattle.expect_text.specs.Bits.{bits_met};
 ghost use Rattle.expect_text.specs.Parts.{after_set, after_text, after_unworded, after_word, any_below, end_met, has, has_word, is_met, is_met_unworded};
 ghost use Rattle.expect_text.specs.Senders.{after_met, any_met, judged_as, loser_met, more_met, out_met, sender_met, senders_met, tail_met};
 
+use crate::bits::is_word_met;
 use crate::pattern::fits;
+use line_frames::Ending;
 use message_table::{NamedByte, WordSet};
 use message_text::opcode_text;
-use text_core::hex_digit;
+use text_core::{after, before, hex_digit, len_before};
 
 /// Bytes of a text.
 #[derive(Clone, Copy, Debug, Drop, PartialEq, Eq)]
@@ -23,8 +26,6 @@ pub enum Class {
     NonZero,
     /// `0` to `5`.
     UpToFive,
-    /// `0` or `1`.
-    Bit,
     /// `a` to `z`.
     Letter,
     /// What stands in quotes.
@@ -81,6 +82,11 @@ pub(crate) enum After<'a> {
     End,
     /// What stands at the end of a line.
     Tail(Judged<'a>),
+    /// The bits of a reading with this ending, and then the same.
+    Bits {
+        ending: Ending,
+        who: Judged<'a>,
+    },
     /// Who of a room did not go on.
     Outs {
         room: &'a [&'a [u8]],
@@ -143,7 +149,6 @@ pub(crate) fn has(class: Class, byte: u8) -> bool
         Class::Digit => byte.is_ascii_digit(),
         Class::NonZero => byte >= b'1' && byte <= b'9',
         Class::UpToFive => byte >= b'0' && byte <= b'5',
-        Class::Bit => byte >= b'0' && byte <= b'1',
         Class::Letter => byte.is_ascii_lowercase(),
         Class::Quotable => byte >= b' ' && byte <= b'~' && byte != b'"',
         Class::Any => true,
@@ -364,6 +369,15 @@ fn is_tail_met(who: Judged<'_>, pattern: &[u8]) -> bool
     }
 }
 
+// Whether the bits of a reading with this ending, and then the end of its line, meet the pattern.
+#[cycle(meeting)]
+fn are_bits_met(ending: Ending, who: Judged<'_>, pattern: &[u8]) -> bool
+    ensures { result ≡ bits_met ending (tail_met (judged_as who.entry)) pattern.now }
+{
+    let end = len_before(pattern, b' ');
+    is_word_met(ending, before(pattern, end)) && is_tail_met(who, after(pattern, end))
+}
+
 // Whether what stands after parts meets the pattern.
 #[cycle(meeting)]
 fn is_after_met(after: After<'_>, pattern: &[u8]) -> bool
@@ -372,6 +386,7 @@ fn is_after_met(after: After<'_>, pattern: &[u8]) -> bool
     match after {
         After::End => fits(pattern, &[]),
         After::Tail(who) => is_tail_met(who, pattern),
+        After::Bits { ending, who } => are_bits_met(ending, who, pattern),
         After::Outs { room } => is_out_met(room, pattern),
         After::By { name, others, room } => {
             is_met_after(name, &[], After::MoreBy { others, room }, pattern)

@@ -8,7 +8,7 @@ ghost use Rattle.expect_text.specs.Parts.{any_below, end_met, is_met};
 ghost use Rattle.expect_text.specs.Senders.{judged_as, tail_met};
 ghost use Rattle.expect_text.specs.declared.part.PatternPart.TheVariants.{Many};
 ghost use Rattle.expect_text.specs.declared.part.Class.TheVariants.{Any};
-ghost use Rattle.expect_text.specs.Said.{bitless_parts, bits_parts, ending_word, has_bits, header_parts, hex_parts, hole_met, is_complete_met, is_ending_met, is_opcode_met, is_open_met, is_operand_met, is_poll_met, is_said, literal, opcode_parts, operand_parts, operands_parts, quoted_parts, quoted_up_to, raw_but, raw_from, raw_parts, repeat, spoilt_at, spoilt_from, spoilt_operand, spoilt_parts, unworded_parts, verdict_parts, volume_parts, worded_parts};
+ghost use Rattle.expect_text.specs.Said.{ending_word, header_parts, hex_parts, hole_met, is_complete_met, is_ending_met, is_opcode_met, is_open_met, is_operand_met, is_poll_met, is_said, literal, opcode_parts, operand_parts, operands_parts, quoted_parts, quoted_up_to, raw_but, raw_from, raw_parts, repeat, spoilt_at, spoilt_from, spoilt_operand, spoilt_parts, unworded_parts, verdict_parts, volume_parts, worded_parts};
 
 use crate::hole::Hole;
 use crate::part::{After, Class, Judged, PatternPart, Worded, is_met};
@@ -441,40 +441,15 @@ fn ending_word(ending: Ending) -> &'static [u8]
     }
 }
 
-// A bad start tells no bits.
-fn has_bits(ending: Ending) -> bool
-    ensures { result ≡ has_bits ending }
-{
-    match ending {
-        Ending::BadStart => false,
-        Ending::Short | Ending::Silent | Ending::Long | Ending::Complete | Ending::Open => true,
-    }
-}
-
-// Whether the line of a reading with this ending and bits meets the pattern.
-#[tactic(auto, unfolding(crate::specs::Said::bits_parts))]
-fn is_bits_met(who: Judged<'_>, pattern: &[u8], ending: Ending) -> bool
-    ensures { result ≡ is_met (tail_met (judged_as who.entry)) (bits_parts ending) pattern.now }
-{
-    let bits = [PatternPart::One(Class::Bit), PatternPart::Many(Class::Bit)];
-    let parts = both(&literal(ending_word(ending)), &bits);
-    is_met(&parts, After::Tail(who), pattern)
-}
-
-// Whether the line of a reading with this ending and without bits meets the pattern.
-#[tactic(auto, unfolding(crate::specs::Said::bitless_parts))]
-fn is_bitless_met(who: Judged<'_>, pattern: &[u8], ending: Ending) -> bool
-    ensures { result ≡ is_met (tail_met (judged_as who.entry)) (bitless_parts ending) pattern.now }
-{
-    let parts = both(&literal(ending_word(ending)), &[PatternPart::Byte(b'-')]);
-    is_met(&parts, After::Tail(who), pattern)
-}
-
 // Whether the line of a reading with this ending meets the pattern.
 fn is_ending_met(who: Judged<'_>, pattern: &[u8], ending: Ending) -> bool
     ensures { result ≡ is_ending_met (judged_as who.entry) pattern.now ending }
 {
-    (has_bits(ending) && is_bits_met(who, pattern, ending)) || is_bitless_met(who, pattern, ending)
+    is_met(
+        &literal(ending_word(ending)),
+        After::Bits { ending, who },
+        pattern,
+    )
 }
 
 // Whether the line of a reading that is not over meets the pattern: a capture alone has one.

@@ -54,7 +54,7 @@ enum CaptureLine {
     Read,
 }
 
-// Of `expect remark PATTERN`: a kind of remarks stands first.
+// Of `expect remark PATTERN` and `expect no-remark PATTERN`: a kind of remarks stands first.
 fn of_remark(line: &str) -> CaptureLine {
     let is_kind = REMARKS.iter().any(|kind| is_word(line, 2, kind));
     if is_kind {
@@ -87,8 +87,9 @@ fn line_of_capture(line: &str, labels: usize) -> CaptureLine {
     match verb {
         Some("at") if !is_word(line, 0, "expect") => of_instant(line, labels),
         Some("state" | "refused") => CaptureLine::Refused(labels.saturating_add(1)),
-        Some("remark") if labels == 0 => of_remark(line),
-        Some("no-remark") if labels == 0 => CaptureLine::Read,
+        Some("no-remark") if labels > 0 => CaptureLine::Refused(labels.saturating_add(1)),
+        Some("no-remark") if line == "expect no-remark" => CaptureLine::Read,
+        Some("remark" | "no-remark") if labels == 0 => of_remark(line),
         _ => CaptureLine::Reading,
     }
 }

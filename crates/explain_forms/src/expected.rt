@@ -195,7 +195,7 @@ fn of_unmet(draft: &mut Draft, spot: Spot<'_>, word: &str) {
         of_state_word(draft, spot, word);
     } else if own.line.starts_with("expect refused ") {
         let _ = add_nearest(draft, spot, REFUSALS, word);
-    } else if own.line.starts_with("expect remark ") {
+    } else if own.line.starts_with("expect remark ") || own.line.starts_with("expect no-remark ") {
         let _ = add_nearest(draft, spot, REMARKS, word);
     } else {
         let first = window_start(own.line)

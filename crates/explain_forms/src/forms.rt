@@ -177,7 +177,8 @@ fn add_refusals(draft: &mut Draft, line: &str) -> bool {
 
 // The kinds of remarks. Returns whether the line is of a remark.
 fn add_remarks(draft: &mut Draft, line: &str) -> bool {
-    let is_remark = line.starts_with("expect remark ");
+    let own = without_label(line).line;
+    let is_remark = own.starts_with("expect remark ") || own.starts_with("expect no-remark ");
     if is_remark {
         let about = "  PATTERN begins with a kind of remarks:";
         add_words(draft, about, REMARKS);

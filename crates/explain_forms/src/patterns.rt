@@ -42,6 +42,30 @@ const VERDICTS: &[(&str, &str, &str)] = &[
     ("rejected", "refused", "nack"),
 ];
 
+/// The words of readings that are not complete, and which bits are shown of each.
+const ENDINGS: &[(&str, &str)] = &[
+    (
+        "short",
+        "`short` shows 1 to 159 bits, or `-` for none; bit 9 of each ten, end-of-message, is 0, but where it is the last one shown",
+    ),
+    (
+        "silent",
+        "`silent` shows 1 to 159 bits; bit 9 of each ten, end-of-message, is 0, but where it is the last one shown",
+    ),
+    (
+        "long",
+        "`long` shows 160 bits; bit 9 of each ten, end-of-message, is 0",
+    ),
+    (
+        "bad-start",
+        "`bad-start` shows no bits: `-` stands after it",
+    ),
+    (
+        "open",
+        "`open` shows 1 to 159 bits, or `-` for none; bit 9 of each ten, end-of-message, is 0, but where it is the last one shown",
+    ),
+];
+
 // A verdict that is taken there, perhaps after operands that are left open. Returns whether there is one.
 fn add_verdict(draft: &mut Draft, spot: Spot<'_>, word: &str) -> bool {
     for (known, verdict, other) in VERDICTS {
@@ -62,6 +86,18 @@ fn add_complete(draft: &mut Draft, word: &str) -> bool {
         draft.add_line("`complete` stands in the trace, and not in PATTERN");
     }
     is_so
+}
+
+// Which bits are shown of a reading that is not complete. Returns whether the pattern's first word, of this number, is its ending.
+fn add_bits(draft: &mut Draft, spot: Spot<'_>, first: usize) -> bool {
+    let ending = spot.moved_to(first).text();
+    for (known, bits) in ENDINGS {
+        if ending == *known {
+            draft.add_line(bits);
+            return true;
+        }
+    }
+    false
 }
 
 // ---- who sent
@@ -127,6 +163,7 @@ fn add_named_opcode(draft: &mut Draft, spot: Spot<'_>, word: &str) -> bool {
 fn add_later(draft: &mut Draft, spot: Spot<'_>, first: usize, word: &str) -> bool {
     let operands = spot.moved_to(first.saturating_add(2));
     add_sender(draft, spot, word)
+        || spot.word == first.saturating_add(1) && add_bits(draft, spot, first)
         || add_pattern_words_meant(draft, operands)
         || add_verdict(draft, spot, word)
         || spot.word == first.saturating_add(1) && add_named_opcode(draft, spot, word)

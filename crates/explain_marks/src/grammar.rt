@@ -55,6 +55,8 @@ const BESIDE_ROUNDS: &[&str] = &[
     "expect state T NAME WORD",
     "expect refused NAME WORD",
     "expect refused WORD",
+    "expect no-remark",
+    "expect no-remark PATTERN",
 ];
 
 /// The words with which events are refused.
@@ -91,6 +93,7 @@ pub const REMARKS: &[&str] = &[
 // What expectations of a capture have besides them: no event is refused there, and there are no devices whose states it has.
 const BESIDE_READINGS: &[&str] = &[
     "expect no-remark",
+    "expect no-remark PATTERN",
     "expect remark PATTERN",
     "label NAME at T",
 ];

@@ -5,6 +5,7 @@ pub use capture_monitor::{WatchError, watch};
 pub use conversion_calls::{EdidToTextError, TextToHexError, edid_to_text, text_to_hex};
 pub use edid_core::{EdidCause, EdidError};
 pub use message_text::{AssembleError, FrameLinesError, asm_lines};
+pub use record_core::Form;
 pub use room_run::Totals;
 pub use room_run::edges::emulate_edges;
 pub use room_run::emulate::{EmulateError, emulate};

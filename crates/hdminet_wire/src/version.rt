@@ -5,7 +5,7 @@ ghost use Rattle.std.specs.Prelude.{◌≡◌};
 /// version rises where calls or numbers are added, the major one where something that was there changes.
 #[unsafe(no_mangle)]
 pub extern "C" fn hdminet_version() -> u32
-    ensures { result ≡ 1000 }
+    ensures { result ≡ 1001 }
 {
-    1000
+    1001
 }

@@ -5,7 +5,7 @@ use Rattle.text_core.specs.Words.{words_of}
 use Rattle.text_core.specs.declared.at.AtWord.{AtWord}
 use Rattle.expect_text.specs.Faults.{line_of_label}
 use Rattle.expect_text.specs.Form.{ExpectLine, ExpectWindow, form_in}
-use Rattle.expect_text.specs.Form.ExpectLine.{Other, Rounds, State, Refused}
+use Rattle.expect_text.specs.Form.ExpectLine.{Other, Rounds, State, Refused, Unremarked}
 use Rattle.expect_text.specs.Form.ExpectWindow.{Within, From}
 use Rattle.expect_text.specs.Line.{onset_in, unlabelled_words}
 use Rattle.expect_text.specs.declared.form.ExpectCause.{ExpectCause}
@@ -57,6 +57,7 @@ module _ (script x y : List ℕ) (seen : AreSeenAlike x y) where
       (same, ap (λ (j : Judged). j.at) same)
   form_same state other at bt number named onset h (Ok (State time device words)) can = (tt, refl)
   form_same state other at bt number named onset h (Ok (Refused name word)) can = (tt, refl)
+  form_same state other at bt number named onset h (Ok (Unremarked pattern)) can = (tt, refl)
 
   lines_same : (lines states others : List (List ℕ)) (at bt : ℕ → Option ℕ) (number : ℕ) → SameInstants at bt → AreAllAlike x y number lines → length states ≡ length lines → length others ≡ length lines
       → AreSameOfRounds lines (lines_judged script x at number lines states) (lines_judged script y bt number lines others)

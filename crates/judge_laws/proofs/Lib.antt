@@ -6,6 +6,7 @@ pub mod Script
 pub mod Run
 pub mod States
 pub mod Agree
+pub mod Ended
 pub mod Read
 pub mod Declared
 pub mod Said

@@ -1,5 +1,6 @@
 -- What the rounds of a run say is what a pattern can meet.
-use Rattle.std.proofs.Common.{◌≡◌, ℕ, zero, suc, ◌+◌, ◌-◌, nat_le, ◌&&◌, inl, inr, Bool, true, false, true≢false, codes, if◌then◌else◌, length, map, slice_get, List, [], ◌∷◌, ◌++◌, append-nil, Option, Some, None, refl, sym, ap, subst, ◌∙◌, arith}
+use Rattle.std.proofs.Common.{◌≡◌, ℕ, zero, suc, ◌+◌, ◌-◌, nat_le, ◌≤◌, ◌&&◌, inl, inr, Bool, true, false, true≢false, codes, if◌then◌else◌, length, map, slice_get, List, [], ◌∷◌, ◌++◌, append-nil, Option, Some, None, refl, sym, ap, subst, ◌∙◌, arith}
+use Rattle.std.proofs.lemmas.Bool.Decides.{nat_tests}
 use Rattle.std.proofs.lemmas.List.Elements.{All-append, All-cons, All-nil}
 use Rattle.std.specs.Prelude.{decimal}
 use Rattle.std.specs.List.{All, cons_option, filter_map}
@@ -28,6 +29,7 @@ use Rattle.room_run.specs.declared.run.Turn.TheVariants.{Stop, Apply, Round}
 use Rattle.room_run.specs.Run.{Config, IsEventTurn, IsTurnBy, Leads, start, turn_at}
 use Rattle.room_driven.specs.Driven.{names_of}
 use Rattle.driven_laws.proofs.Names.{names_started}
+use Rattle.expect_text.specs.Bits.{FitsEnding}
 use Rattle.expect_text.specs.Faults.{names_of as declared_of}
 use Rattle.expect_text.specs.Fits.{fits}
 use Rattle.expect_text.specs.Names.{for_names, holds_in, is_meetable, last_word, meets}
@@ -42,7 +44,8 @@ use Rattle.judge_laws.specs.ReadBack.{RoundReported, ending_reported, round_read
 use Rattle.judge_laws.specs.Said.{ReadingsAreSaid, RefusedAreNeverSeen, RoundsAreSaid, reading_said}
 use Rattle.judge_laws.proofs.Declared.{names_are_declared}
 use Rattle.judge_laws.proofs.Names.{names_applied, names_round}
-use Rattle.judge_laws.proofs.Read.{IsHeard, IsOver, frame_there, out_within, reading_heard}
+use Rattle.judge_laws.proofs.Ended.{IsWay}
+use Rattle.judge_laws.proofs.Read.{IsHeard, frame_there, out_within, reading_cut, reading_heard}
 use Rattle.judge_laws.proofs.Run.{traces_are_read_back}
 
 -- ---- who sent, in the topology's order
@@ -144,9 +147,9 @@ capture_places : HasPlaces Capture
 capture_places = record { short = refl; silent = refl; bad = refl; long = refl }
 
 module _ (who : Judged) (places : HasPlaces who) (r : Reading) (tail : List ℕ) (senders : IsTail who tail) where
-  over_said : (ending : Ending) → r.ending ≡ ending → IsOver r.bits.items ending → IsSaid who (said_of r tail ending)
-  over_said Complete e over =
-      let f = frame_there r.bits.items over.way.0 over.way.1 over.few in
+  over_said : (ending : Ending) → r.ending ≡ ending → IsWay r.bits.items ending → IsSaid who (said_of r tail ending)
+  over_said Complete e way =
+      let f = frame_there r.bits.items way.0 way.1 way.2 in
       let same : frame_in r ≡ Some f.0 = ap (λ (x : Ending). frame_by x r.bits.items) e ∙ f.1 in
       inl (
         f.0,
@@ -156,33 +159,38 @@ module _ (who : Judged) (places : HasPlaces who) (r : Reading) (tail : List ℕ)
         senders,
         ap (λ (x : Option (List ℕ)). reported_frame x ++ (verdict_by (is_broadcast x) (last_bit r.bits.items) ++ tail)) same,
       )
-  over_said Short e over = inr (Short, 0, r.bits.items, tail, places.short, λ h. absurd (true≢false h), senders, refl)
-  over_said Silent e over = inr (Silent, 1, r.bits.items, tail, places.silent, λ h. absurd (true≢false h), senders, refl)
-  over_said BadStart e over = absurd over.way
-  over_said Long e over = inr (Long, 3, r.bits.items, tail, places.long, λ h. absurd (true≢false h), senders, refl)
-  over_said Open e over = absurd over.way
+  over_said Short e way = inr (Short, 0, r.bits.items, tail, places.short, way, senders, refl)
+  over_said Silent e way = inr (Silent, 1, r.bits.items, tail, places.silent, way, senders, refl)
+  over_said BadStart e way = absurd way
+  over_said Long e way = inr (Long, 3, r.bits.items, tail, places.long, way, senders, refl)
+  over_said Open e way = absurd way
 
   heard_said : IsHeard r.bits.items r.ending → IsSaid who (said_of r tail r.ending)
   heard_said (inl bad) =
-      subst (λ (x : Ending). IsSaid who (said_of r tail x)) (sym bad.0) (inr (BadStart, 2, r.bits.items, tail, places.bad, λ h. bad.1, senders, refl))
-  heard_said (inr over) = over_said r.ending refl over
+      let none = subst (λ (xs : List Bool). FitsEnding BadStart xs) (sym bad.1) (omega arith, omega arith, refl) in
+      subst (λ (x : Ending). IsSaid who (said_of r tail x)) (sym bad.0) (inr (BadStart, 2, r.bits.items, tail, places.bad, none, senders, refl))
+  heard_said (inr way) = over_said r.ending refl way
 
 -- ---- the readings of a line
 
 bare : (r : Reading) → said_of r [] r.ending ≡ reading_said r
 bare r = ap (λ (t : List ℕ). ending_reported r.ending ++ (reported_text r ++ t)) (append-nil (verdict_text r))
 
-open_said : (begin at : ℕ) (bits : List Bool) → IsSaid Capture (reading_said (reading_as (record { begin = begin; reported = record { bits = bits; ending = Open; at = at } })))
-open_said begin at bits = inr (Open, 4, bits, [], refl, λ h. absurd (true≢false h), refl, refl)
+open_said : (begin at : ℕ) (bits : List Bool) → FitsEnding Open bits → IsSaid Capture (reading_said (reading_as (record { begin = begin; reported = record { bits = bits; ending = Open; at = at } })))
+open_said begin at bits fits = inr (Open, 4, bits, [], refl, fits, refl, refl)
 
 listed_said : (low : Line) (end e : ℕ) → IsSaid Capture (reading_said (reading_as (reading_from low end e)))
-listed_said low end e = by (nat_le (reading_of low e).at end)
+listed_said low end e = by (nat_le (reading_of low e).at end) refl
   where
-    by : (b : Bool) → IsSaid Capture (reading_said (reading_as (record { begin = e; reported = if b then reported_of (reading_of low e) else record { bits = filter_map (λ (s : Slot). s.bit) (known_at (end + 1) (reading_of low e)).slots; ending = Open; at = end } })))
-    by true =
+    later : nat_le (reading_of low e).at end ≡ false → end + 1 ≤ (reading_of low e).at
+    later h = grind (arith, nat_tests, h)
+
+    by : (b : Bool) → nat_le (reading_of low e).at end ≡ b
+        → IsSaid Capture (reading_said (reading_as (record { begin = e; reported = if b then reported_of (reading_of low e) else record { bits = filter_map (λ (s : Slot). s.bit) (known_at (end + 1) (reading_of low e)).slots; ending = Open; at = end } })))
+    by true h =
         let r : Reading = reading_as (record { begin = e; reported = reported_of (reading_of low e) }) in
         subst (IsSaid Capture) (bare r) (heard_said Capture capture_places r [] refl (reading_heard low e))
-    by false = open_said e end (filter_map (λ (s : Slot). s.bit) (known_at (end + 1) (reading_of low e)).slots)
+    by false h = open_said e end (filter_map (λ (s : Slot). s.bit) (known_at (end + 1) (reading_of low e)).slots) (reading_cut low e (end + 1) (later h))
 
 from_said : (low : Line) (end left from : ℕ) → All (λ x. IsSaid Capture (reading_said (reading_as x))) (readings_from low end left from)
 unfolding readings_from

@@ -12,7 +12,7 @@ use Rattle.room_run.specs.declared.run.Totals.{Totals}
 use Rattle.room_run.specs.Emulate.{IsLineOf, IsTraceOf}
 use Rattle.expect_text.specs.Fits.{fits}
 use Rattle.expect_text.specs.Form.{ExpectLine, form_in}
-use Rattle.expect_text.specs.Form.ExpectLine.{Other, Rounds, State, Refused}
+use Rattle.expect_text.specs.Form.ExpectLine.{Other, Rounds, State, Refused, Unremarked}
 use Rattle.expect_text.specs.Line.{onset_in, unlabelled_words}
 use Rattle.expect_text.specs.Names.{named_in}
 use Rattle.expect_text.specs.declared.form.ExpectCause.{ExpectCause}
@@ -48,6 +48,7 @@ CanBeAlike x y number named onset (Ok Other) = named ≡ true → other_judged y
 CanBeAlike x y number named onset (Ok (Rounds quantity window pattern)) = (named_in pattern ≡ None) × (asks_no_sender pattern ≡ true)
 CanBeAlike x y number named onset (Ok (State time device words)) = Unit {0}
 CanBeAlike x y number named onset (Ok (Refused name word)) = Unit {0}
+CanBeAlike x y number named onset (Ok (Unremarked pattern)) = Unit {0}
 
 -- that of each of these lines, of which the first has this number
 abbrev pub AreAllAlike : List ℕ → List ℕ → ℕ → List (List ℕ) → Type 0
@@ -62,6 +63,7 @@ IsSameOfRounds (Ok Other) j k = Unit {0}
 IsSameOfRounds (Ok (Rounds quantity window pattern)) j k = k ≡ j
 IsSameOfRounds (Ok (State time device words)) j k = Unit {0}
 IsSameOfRounds (Ok (Refused name word)) j k = Unit {0}
+IsSameOfRounds (Ok (Unremarked pattern)) j k = Unit {0}
 
 abbrev pub AreSameOfRounds : List (List ℕ) → List Judged → List Judged → Type 0
 AreSameOfRounds [] js ks = Unit {0}

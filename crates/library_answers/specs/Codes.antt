@@ -1,7 +1,7 @@
 -- The numbers of answers (this profile's own).
 use Rattle.std.specs.Prelude.{ℕ}
 use Rattle.library_answers.specs.declared.code.Code.{Code}
-use Rattle.library_answers.specs.declared.code.Code.TheVariants.{Done, Room, State, Late, Absent, Heard, FrameEmpty, FrameTooLong, TextAddress, TextName, TextTooLong, TextCount, TextOperand, EdidLength, EdidCount, EdidHeader, EdidChecksum, EdidRevision, EdidMaker, EdidFirst, EdidSecond, EdidThird, EdidNoHdmiBlock, EdidTextSyntax, EdidTextField, Memory, TopologyWord, TopologyNumber, TopologyName, TopologyFull, TopologySecondRoot, TopologyNoRoot, TopologyPortRange, TopologyPortTaken, TopologyNotLoose, TopologyLoop, TopologyHex, ScriptWord, ScriptNumber, ScriptName, ScriptWidth, ScriptOrder, ScriptClose, ScriptTooMany, ScriptEnd, ExpectWord, ExpectNumber, ExpectLabel, ExpectOrder, EdgesLine, EdgesOrder}
+use Rattle.library_answers.specs.declared.code.Code.TheVariants.{Done, Room, State, Late, Absent, Heard, Closed, Line, FrameEmpty, FrameTooLong, TextAddress, TextName, TextTooLong, TextCount, TextOperand, EdidLength, EdidCount, EdidHeader, EdidChecksum, EdidRevision, EdidMaker, EdidFirst, EdidSecond, EdidThird, EdidNoHdmiBlock, EdidTextSyntax, EdidTextField, Memory, TopologyWord, TopologyNumber, TopologyName, TopologyFull, TopologySecondRoot, TopologyNoRoot, TopologyPortRange, TopologyPortTaken, TopologyNotLoose, TopologyLoop, TopologyHex, ScriptWord, ScriptNumber, ScriptName, ScriptWidth, ScriptOrder, ScriptClose, ScriptTooMany, ScriptEnd, ExpectWord, ExpectNumber, ExpectLabel, ExpectOrder, EdgesLine, EdgesOrder}
 
 abbrev pub number_of : Code → ℕ
 number_of Done = 0
@@ -10,6 +10,8 @@ number_of State = 2
 number_of Late = 3
 number_of Absent = 4
 number_of Heard = 5
+number_of Closed = 6
+number_of Line = 7
 number_of FrameEmpty = 10
 number_of FrameTooLong = 11
 number_of TextAddress = 20

@@ -17,6 +17,10 @@ pub enum Code {
     Absent,
     /// What was heard is nothing that a receiver reports.
     Heard,
+    /// No session is open, or its script has ended.
+    Closed,
+    /// The line has an end in it, or more than 4,096 bytes.
+    Line,
     /// A frame has at least one byte.
     FrameEmpty,
     /// A frame has at most 16 bytes.
@@ -122,6 +126,8 @@ impl Code {
             Code::Late => 3,
             Code::Absent => 4,
             Code::Heard => 5,
+            Code::Closed => 6,
+            Code::Line => 7,
             Code::FrameEmpty => 10,
             Code::FrameTooLong => 11,
             Code::TextAddress => 20,

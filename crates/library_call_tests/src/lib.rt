@@ -25,6 +25,8 @@ mod samples;
 #[cfg(test)]
 mod senders;
 #[cfg(test)]
+mod sessions;
+#[cfg(test)]
 mod states;
 #[cfg(test)]
 mod texts;

@@ -11,3 +11,4 @@ mod opening;
 pub use dialogue::{session, session_heard};
 pub use error::{ScriptEnd, SessionError};
 pub use hearing::{RefusalHearer, SilentRefusals};
+pub use opening::begin;

@@ -76,7 +76,11 @@ pub(crate) fn topology_text<R: Read, H: RefusalHearer>(
 }
 
 /// The run of a topology before its first line.
-pub(crate) fn begin(alloc: Global, text: &[u8]) -> Result<Live, SessionError>
+///
+/// # Errors
+///
+/// As the topology and its EDID are refused; no memory.
+pub fn begin(alloc: Global, text: &[u8]) -> Result<Live, SessionError>
     ensures { IsBegun text.now result }
 {
     let topology = match parse_topology(alloc, text) {

@@ -24,7 +24,6 @@ clash k = cc
 any_input : (objects : Objects) (input lines text : List ℕ) → are_of_run objects ≡ false → AreObjectsOf objects [] lines text → AreObjectsOf objects input lines text
 any_input (of.Trace strict) input lines text e are = absurd (clash e)
 any_input (of.Room strict) input lines text e are = absurd (clash e)
-any_input (of.Capture form glitch margin inverted report) input lines text e are = absurd (clash e)
 any_input (of.Test traced) input lines text e are = are
 any_input (of.CaptureTest form glitch) input lines text e are = are
 

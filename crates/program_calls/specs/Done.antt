@@ -15,6 +15,7 @@ use Rattle.room_run.specs.Emulate.{AreObjectsOf as AreRunObjects, IsLineOf, IsTr
 use Rattle.room_run.specs.Objects.{AreOfRecords}
 use Rattle.room_trace.specs.Room.{heads_in, room_if}
 use Rattle.room_run.specs.declared.run.Totals.{Totals}
+use Rattle.record_core.specs.declared.cell.Form.{Form}
 use Rattle.room_steps.specs.StepRun.{AreStepsOf}
 use Rattle.message_text.specs.FrameLines.{AreTextsOf, hex_line as frame_line, lines_of_frames}
 use Rattle.line_wave.specs.declared.Stretch.{Stretch}
@@ -30,10 +31,10 @@ use Rattle.cli_words.specs.declared.choice.Listing.{Listing}
 use Rattle.cli_words.specs.declared.choice.Listing.TheVariants.{Trace, Line, Drives, Named}
 use Rattle.cli_words.specs.declared.choice.TestView.{TestView}
 use Rattle.cli_words.specs.declared.choice.TestView.TheVariants.{Report, Traced}
-use Rattle.record_core.specs.declared.cell.Form.TheVariants as forms
 use Rattle.program_captures.specs.Captures.{IsShown, form_of, name_of, report_of}
 use Rattle.program_captures.specs.Following.{IsReported}
 use Rattle.program_edids.specs.Edids.{IsMade}
+use Rattle.program_edids.specs.Told.{told}
 use Rattle.program_calls.specs.CaptureTests.{IsCaptureTest}
 use Rattle.program_calls.specs.Live.{IsLiveDoneAs}
 use Rattle.program_calls.specs.Reports.{WritesReports, report_kind}
@@ -70,15 +71,15 @@ pub record IsTestDone (view : TestView) (input text : List ℕ) : Type 0 where
   pub parts : IsRunInput input topology script
   pub test : IsTestOf view topology script text
 
--- after the script and a line `steps` stand commands, whose steps these are
-pub record AreStepsDone (input text : List ℕ) : Type 0 where
+-- after the script and a line `steps` stand commands, whose steps these are, in a form
+pub record AreStepsDone (form : Form) (input text : List ℕ) : Type 0 where
   pub topology : List ℕ
   pub rest : List ℕ
   pub script : List ℕ
   pub commands : List ℕ
   pub parts : IsRunInput input topology rest
   pub rest_parts : IsStepsInput rest script commands
-  pub steps : AreStepsOf topology script commands text
+  pub steps : AreStepsOf form topology script commands text
 
 -- this text with these counts is what is asked for of the run that the input spells
 abbrev pub IsListed : Listing → List ℕ → List ℕ → Totals → Type 0
@@ -92,19 +93,17 @@ abbrev pub report_view : Bool → TestView
 report_view false = Report
 report_view true = Traced
 
--- the lines of which there are objects; of a capture the objects themselves
+-- the lines of which there are objects
 abbrev pub AreLines : Objects → List ℕ → List ℕ → List ℕ → Type 0
 AreLines (of.Trace strict) name input text = (totals : Totals) × IsRunDone input text totals × (strict ≡ true → totals.refused ≡ 0)
 AreLines (of.Room strict) name input text = (totals : Totals) × IsRunDone input text totals × (strict ≡ true → totals.refused ≡ 0)
-AreLines (of.Capture form glitch margin inverted report) name input text = IsShown forms.Json false (form_of form input) name inverted glitch margin (report_of report (form_of form input)) input text
 AreLines (of.Test traced) name input text = IsTestDone (report_view traced) input text
 AreLines (of.CaptureTest form glitch) name input text = IsCaptureTest form name glitch input text
 
--- those of a run's trace, whose objects are written while it runs, and of a capture, whose lines are never texts
+-- those of a run's trace, whose objects are written while it runs
 abbrev pub are_of_run : Objects → Bool
 are_of_run (of.Trace strict) = true
 are_of_run (of.Room strict) = true
-are_of_run (of.Capture form glitch margin inverted report) = true
 are_of_run (of.Test traced) = false
 are_of_run (of.CaptureTest form glitch) = false
 
@@ -128,7 +127,6 @@ pub record AreRunDone (with_room : Bool) (input lines text : List ℕ) : Type 0 
 abbrev pub AreObjectsOf : Objects → List ℕ → List ℕ → List ℕ → Type 0
 AreObjectsOf (of.Trace strict) input lines text = AreRunDone false input lines text
 AreObjectsOf (of.Room strict) input lines text = AreRunDone true input lines text
-AreObjectsOf (of.Capture form glitch margin inverted report) input lines text = text ≡ lines
 AreObjectsOf (of.Test traced) input lines text = AreReportObjects (report_kind lines) (lines_of lines) text
 AreObjectsOf (of.CaptureTest form glitch) input lines text = AreReportObjects kinds.Expectations (lines_of lines) text
 
@@ -142,16 +140,16 @@ abbrev pub IsDone : CommandChoice → List ℕ → List ℕ → List ℕ → Typ
 IsDone (Run listing strict) name input text = (totals : Totals) × IsListed listing input text totals × (strict ≡ true → totals.refused ≡ 0)
 IsDone (Check view) name input text = IsTestDone view input text
 IsDone (CheckCapture form glitch) name input text = IsCaptureTest form name glitch input text
-IsDone Step name input text = AreStepsDone input text
+IsDone (Step form) name input text = AreStepsDone form input text
 IsDone (Live json) name input text = IsLiveDoneAs json input text
 IsDone Asm name input text = (frames : List (List ℕ)) × AreTextsOf (lines_of_frames (lines_of input)) frames × (text ≡ flat_map frame_line frames)
 IsDone (Dis meaning form) name input text = (first_fault 1 (lines_of input) ≡ None) × (text ≡ flat_map (dis_text form meaning) (lines_of input))
 IsDone (Lay form) name input text = (pulls : List Stretch) × AreLinesRead (lines_of input) 1 no_notes (Ok pulls) × (text ≡ flat_map (pull_record form) pulls)
 IsDone (Mon mon) name input text =
-    IsShown forms.Text mon.folded (form_of mon.form input) name mon.inverted mon.glitch mon.margin (report_of mon.report (form_of mon.form input)) input text
+    IsShown mon.written mon.folded (form_of mon.form input) name mon.inverted mon.glitch mon.margin (report_of mon.report (form_of mon.form input)) input text
 IsDone (Follow form margin report) name input text = IsReported form margin report name input text
 IsDone (Json objects) name input text = (lines : List ℕ) × AreLines objects name input lines × AreObjectsOf objects input lines text
-IsDone (Edid source reading view) name input text = IsMade source reading view input text
+IsDone (Edid source reading view) name input text = IsMade (told source input) reading view input text
 
 -- the choices whose lines are answered as they come
 abbrev pub is_line_by_line : CommandChoice → Bool

@@ -11,29 +11,28 @@ use message_hex::DisError;
 use message_lay::LayError;
 use message_text::FrameLinesError;
 use program_captures::{MonitorFault, form_of};
-use program_edids::EdidFault;
+use program_edids::{EdidFault, told};
 use program_input::{InputError, capture_parts};
 use room_run::emulate::EmulateError;
 use room_script::ScriptCause;
 use text_core::{At, at_word};
 
-/// What the input of a choice is to be.
-pub fn input_of(choice: CommandChoice) -> Input {
+/// What an input of a choice is to be.
+pub fn input_of(choice: CommandChoice, input: &[u8]) -> Input {
     match choice {
         CommandChoice::Check(_) | CommandChoice::Json(Objects::Test { .. }) => Input::Test,
         CommandChoice::CheckCapture { .. } | CommandChoice::Json(Objects::CaptureTest { .. }) => {
             Input::CaptureTest
         }
         CommandChoice::Run { .. }
-        | CommandChoice::Step
+        | CommandChoice::Step { .. }
         | CommandChoice::Json(Objects::Trace { .. } | Objects::Room { .. }) => Input::Network,
         CommandChoice::Live { .. } | CommandChoice::Follow { .. } => Input::Session,
         CommandChoice::Asm
         | CommandChoice::Dis { .. }
         | CommandChoice::Lay { .. }
-        | CommandChoice::Mon(_)
-        | CommandChoice::Json(Objects::Capture { .. }) => { Input::Lines }
-        CommandChoice::Edid { source, .. } => match source {
+        | CommandChoice::Mon(_) => Input::Lines,
+        CommandChoice::Edid { source, .. } => match told(source, input) {
             Source::Bytes | Source::Pair { dumps: false, .. } => Input::EdidBytes,
             Source::Dump { .. } | Source::Pair { dumps: true, .. } => Input::Lines,
             Source::Text => Input::EdidText,
@@ -45,8 +44,7 @@ pub fn input_of(choice: CommandChoice) -> Input {
 /// The form of the capture that a choice takes from its input.
 pub fn form_in(choice: CommandChoice, input: &[u8]) -> CaptureForm {
     match choice {
-        CommandChoice::Mon(MonChoice { form, .. })
-        | CommandChoice::Json(Objects::Capture { form, .. }) => { form_of(form, input) }
+        CommandChoice::Mon(MonChoice { form, .. }) => form_of(form, input),
         CommandChoice::Follow {
             form: LineForm::Pin,
             ..

@@ -1,20 +1,16 @@
-//! Objects of JSON: of a run and of a capture line by line, and of all other lines once they are all there.
+//! Objects of JSON: of a run while it runs, and of all other lines once they are all there.
 ghost use Rattle.std.specs.Prelude.{◌≡◌, false, [], OnOk};
 ghost use Rattle.program_calls.specs.Done.{Writes, WritesLines, WritesObjects, are_of_run, report_view};
 ghost use Rattle.program_calls.specs.Reports.{report_kind};
-ghost use Rattle.cli_words.specs.declared.choice.Objects.TheVariants as of;
 
 use crate::capture_test::test_capture;
 use crate::check::test;
 use crate::fault::ProgramFault;
 use crate::run::{run_to_objects, run_to_room};
 use crate::told::Recap;
-use capture_forms::CaptureForm;
-use cli_words::{CaptureReport, CommandChoice, Objects, TestView};
+use cli_words::{CommandChoice, Objects, TestView};
 use expect_sweep::SilentProgress;
 use json_report::{ReportKind, write_report_objects};
-use program_captures::show;
-use record_core::Form;
 use std::alloc::{AllocError, Global};
 use text_core::{Held, Sink, before};
 
@@ -50,7 +46,6 @@ fn write_objects_of<W: Sink>(
     match objects {
         Objects::Trace { .. } => unreachable!(),
         Objects::Room { .. } => unreachable!(),
-        Objects::Capture { .. } => unreachable!(),
         Objects::Test { .. } => Ok(write_report_objects(report_kind(lines), lines, out)?),
         Objects::CaptureTest { .. } => {
             Ok(write_report_objects(ReportKind::Expectations, lines, out)?)
@@ -84,7 +79,6 @@ impl Lines<'_> {
         match self.objects {
             Objects::Trace { .. } => unreachable!(),
             Objects::Room { .. } => unreachable!(),
-            Objects::Capture { .. } => unreachable!(),
             Objects::Test { traced } => {
                 test(alloc, report_view(traced), input, out, &mut SilentProgress)
             }
@@ -109,34 +103,6 @@ impl Lines<'_> {
         done
     }
 
-    // Writes the objects of a capture.
-    fn write_capture<W: Sink>(
-        self,
-        form: Option<CaptureForm>,
-        glitch: u64,
-        margin: u64,
-        inverted: bool,
-        report: Option<CaptureReport>,
-        out: &mut W,
-    ) -> Result<Recap, ProgramFault>
-        ensures { OnOk result (Writes (CommandChoice.Json (of.Capture form glitch margin inverted report)) self.entry.signal.now self.entry.input.now (W.contents out.old) (W.contents out.new)) }
-    {
-        let signs = show(
-            self.alloc,
-            Form::Json,
-            false,
-            form,
-            self.signal,
-            inverted,
-            glitch,
-            margin,
-            report,
-            self.input,
-            out,
-        )?;
-        Ok(Recap::Capture(signs))
-    }
-
     // Writes their objects.
     fn write_objects<W: Sink>(self, out: &mut W) -> Result<Recap, ProgramFault>
         ensures { OnOk result (Writes (CommandChoice.Json self.entry.objects) self.entry.signal.now self.entry.input.now (W.contents out.old) (W.contents out.new)) }
@@ -144,19 +110,12 @@ impl Lines<'_> {
         match self.objects {
             Objects::Trace { strict } => run_to_objects(self.alloc, strict, self.input, out),
             Objects::Room { strict } => run_to_room(self.alloc, strict, self.input, out),
-            Objects::Capture {
-                form,
-                glitch,
-                margin,
-                inverted,
-                report,
-            } => self.write_capture(form, glitch, margin, inverted, report, out),
             Objects::Test { .. } | Objects::CaptureTest { .. } => self.write_held(out),
         }
     }
 }
 
-/// Writes the objects of lines: of a run and of a capture line by line, and of all others once they are all there.
+/// Writes the objects of lines: of a run while it runs, and of all others once they are all there.
 pub fn write_json<W: Sink>(
     alloc: Global,
     objects: Objects,

@@ -23,12 +23,17 @@ use std::alloc::Global;
 use text_core::Sink;
 
 #[inline(never)]
-fn step<W: Sink>(alloc: Global, input: &[u8], out: &mut W) -> Result<Recap, ProgramFault>
-    ensures { OnOk result (Writes CommandChoice.Step [] input.now (W.contents out.old) (W.contents out.new)) }
+fn step<W: Sink>(
+    alloc: Global,
+    form: Form,
+    input: &[u8],
+    out: &mut W,
+) -> Result<Recap, ProgramFault>
+    ensures { OnOk result (Writes (CommandChoice.Step form) [] input.now (W.contents out.old) (W.contents out.new)) }
 {
     let (topology, rest) = run_parts(input)?;
     let (script, steps) = steps_parts(rest)?;
-    step_run(alloc, topology, script, steps, out)?;
+    step_run(alloc, form, topology, script, steps, out)?;
     Ok(Recap::Nothing)
 }
 
@@ -73,7 +78,7 @@ fn show_capture<W: Sink>(
 {
     let signs = show(
         alloc,
-        Form::Text,
+        mon.written,
         mon.folded,
         mon.form,
         signal,
@@ -110,7 +115,7 @@ pub fn perform<W: Sink, H: ProgressHearer>(
         CommandChoice::CheckCapture { form, glitch } => {
             test_capture(alloc, form, signal, glitch, input, out)
         }
-        CommandChoice::Step => step(alloc, input, out),
+        CommandChoice::Step { form } => step(alloc, form, input, out),
         CommandChoice::Live { .. } | CommandChoice::Follow { .. } => unreachable!(),
         CommandChoice::Asm => assemble(input, out),
         CommandChoice::Dis { meaning, form } => disassemble(meaning, form, input, out),

@@ -14,6 +14,7 @@ use program_edids::{
     EdidFault, explain_lack, explain_merge, explain_rules, explain_speakers, name_read,
 };
 use program_input::capture_parts;
+use record_core::Form;
 use room_run::Totals;
 use std::alloc::{AllocError, Global};
 use text_core::{Sink, put_all};
@@ -94,7 +95,7 @@ fn explanation_of(
     let Some(typed) = explained(form_in(choice, input), fault) else {
         return Ok(String::new(alloc));
     };
-    let mut text = explain(alloc, input_of(choice), typed, input)?;
+    let mut text = explain(alloc, input_of(choice, input), typed, input)?;
     text.push_str(lack_of(alloc, choice, fault, input)?.as_str())?;
     Ok(text)
 }
@@ -128,10 +129,7 @@ fn add_help<E: Sink>(text: Result<String, AllocError>, err: &mut E) {
 // Names the lines of a capture before which events were lost.
 fn name_lost_of<E: Sink>(alloc: Global, choice: CommandChoice, input: &[u8], err: &mut E) {
     match choice {
-        CommandChoice::Mon(MonChoice { form, .. })
-        | CommandChoice::Json(Objects::Capture { form, .. }) => {
-            name_lost(alloc, form, input, err);
-        }
+        CommandChoice::Mon(MonChoice { form, .. }) => name_lost(alloc, form, input, err),
         CommandChoice::CheckCapture { form, .. }
         | CommandChoice::Json(Objects::CaptureTest { form, .. }) => {
             if let Ok((_, taken)) = capture_parts(input) {
@@ -188,14 +186,6 @@ fn hint<E: Sink>(alloc: Global, choice: CommandChoice, signs: Signs, input: &[u8
                 inverted,
                 ..
             },
-        )
-        | CommandChoice::Json(
-            Objects::Capture {
-                glitch,
-                margin,
-                inverted,
-                ..
-            },
         ) => {
             let form = form_in(choice, input);
             write_hints(alloc, form, inverted, glitch, margin, signs, input, err);
@@ -204,7 +194,7 @@ fn hint<E: Sink>(alloc: Global, choice: CommandChoice, signs: Signs, input: &[u8
     }
 }
 
-// Whether a capture is read with no flag that says how.
+// Whether a capture is read, and its lines are written, with no flag that says how.
 fn has_no_flag(mon: MonChoice) -> bool {
     mon.form.is_none()
         && mon.report.is_none()
@@ -212,6 +202,7 @@ fn has_no_flag(mon: MonChoice) -> bool {
         && mon.margin == 0
         && !mon.inverted
         && !mon.folded
+        && matches!(mon.written, Form::Text)
 }
 
 // Whether a capture is an edge file that `mon` reads with no flag.

@@ -6,7 +6,7 @@ pub(crate) fn waited_for(choice: CommandChoice) -> &'static str {
     match choice {
         CommandChoice::Run { .. }
         | CommandChoice::Check(_)
-        | CommandChoice::Step
+        | CommandChoice::Step { .. }
         | CommandChoice::Live { .. }
         | CommandChoice::Json(
             Objects::Trace { .. } | Objects::Room { .. } | Objects::Test { .. },
@@ -18,9 +18,7 @@ pub(crate) fn waited_for(choice: CommandChoice) -> &'static str {
         CommandChoice::Asm | CommandChoice::Dis { .. } | CommandChoice::Lay { .. } => {
             "hdminet: waits for frames on standard input (--help explains them)\n"
         }
-        CommandChoice::Mon(_)
-        | CommandChoice::Follow { .. }
-        | CommandChoice::Json(Objects::Capture { .. }) => {
+        CommandChoice::Mon(_) | CommandChoice::Follow { .. } => {
             "hdminet: waits for a capture on standard input (--help explains it)\n"
         }
         CommandChoice::Edid { .. } => {

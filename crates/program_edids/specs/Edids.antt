@@ -1,7 +1,7 @@
 -- What is written of an EDID (own).
 use Rattle.std.specs.Prelude.{◌≡◌, ℕ, ◌+◌, ◌*◌, Bool, true, false, nat_lt, List, [], length, take, drop, Option, Some, Ok, if◌then◌else◌, slice_index}
 use Rattle.std.specs.Io.KnownBytes.{Appends}
-use Rattle.conversion_fields.specs.Blocks.{extensions_text}
+use Rattle.conversion_fields.specs.Whole.{edid_text as fields_text}
 use Rattle.conversion_notes.specs.EdidMeaning.{meaning_of}
 use Rattle.conversion_notes.specs.Meanings.{plain_text}
 use Rattle.edid_core.specs.Bytes.{edid_bytes}
@@ -98,7 +98,7 @@ abbrev pub IsMeant : List ℕ → List ℕ → Type 0
 IsMeant bytes text = (e : Edid) × (edid_bytes e ≡ bytes) × (text ≡ meaning_of e)
 
 abbrev pub AreFields : List ℕ → List ℕ → Type 0
-AreFields bytes text = (e : Edid) × (edid_bytes e ≡ bytes) × (text ≡ extensions_text 1 e.extensions.items)
+AreFields bytes text = (e : Edid) × (edid_bytes e ≡ bytes) × (text ≡ fields_text e.base e.extensions.items)
 
 abbrev pub IsAddress : List ℕ → List ℕ → Type 0
 IsAddress bytes text = (a : Phys) × Reports bytes (Some a) × (text ≡ address_line a)

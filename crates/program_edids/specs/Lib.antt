@@ -1,1 +1,2 @@
 pub mod Edids
+pub mod Told

@@ -3,6 +3,7 @@ ghost use Rattle.std.specs.Prelude.{◌≡◌, ℕ, List, OnOk, IfOk};
 ghost use Rattle.edid_core.specs.Bytes.{edid_bytes};
 ghost use Rattle.edid_core.specs.declared.edid.Edid.{Edid as EdidValue};
 ghost use Rattle.program_edids.specs.Edids.{IsGiven, IsRecounted, IsSpokenIn, Made, Shows, ShowsAs, ShowsCounted, ShowsPassed, at, form_of, in_port, origin_of};
+ghost use Rattle.program_edids.specs.Told.{told};
 ghost use Rattle.std.specs.Io.KnownBytes.{Appends};
 ghost use Rattle.text_core.specs.Written.{WrittenAll};
 ghost use Rattle.conversion_calls.specs.Passing.{IsPassedOn};
@@ -13,6 +14,7 @@ use crate::edid_described::write_own_fields;
 use crate::edid_fault::EdidFault;
 use crate::edid_given::{given_of, kept_count};
 use crate::edid_judged::{write_counted_rules, write_own_rules};
+use crate::edid_told::told;
 use arrayvec::ArrayVec;
 use cli_words::{EdidReading, EdidShape, Recipient, Sound, Source, View};
 use conversion_calls::{
@@ -472,8 +474,8 @@ impl Blocks<'_> {
     }
 }
 
-/// Does what is asked for with an EDID.
-pub fn edid<W: Sink>(
+// Does what is asked for with an EDID, of an input that is read so.
+fn edid_of<W: Sink>(
     alloc: Global,
     source: Source,
     reading: EdidReading,
@@ -486,4 +488,18 @@ pub fn edid<W: Sink>(
     let given = given_of(alloc, source, input)?;
     let bytes = given.as_slice();
     Blocks { alloc, bytes }.show_as(reading, kept_count(source, bytes), view, out)
+}
+
+/// Does what is asked for with an EDID. Where it is not said what the input holds, its first bytes say it.
+pub fn edid<W: Sink>(
+    alloc: Global,
+    source: Option<Source>,
+    reading: EdidReading,
+    view: View,
+    input: &[u8],
+    out: &mut W,
+) -> Result<(), EdidFault>
+    ensures { OnOk result (Made (told source input.now) reading view input.now (W.contents out.old) (W.contents out.new)) }
+{
+    edid_of(alloc, told(source, input), reading, view, input, out)
 }

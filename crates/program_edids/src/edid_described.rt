@@ -1,22 +1,23 @@
 //! What the fields of the EDID of some bytes are.
 ghost use Rattle.std.specs.Prelude.{◌≤◌, OnOk, length};
 ghost use Rattle.std.specs.Io.KnownBytes.{Appends};
-ghost use Rattle.conversion_fields.specs.Blocks.{extensions_text};
+ghost use Rattle.conversion_fields.specs.Whole.{edid_text};
 ghost use Rattle.program_edids.specs.Edids.{ShowsFields};
 
 use crate::edid_fault::EdidFault;
 use arrayvec::ArrayVec;
 use conversion_fields::write_fields;
+use edid_base::Base;
 use edid_core::read_parts;
 use edid_cta::Ext;
 use text_core::Sink;
 
-// Writes the fields of extensions.
-fn write_objects<W: Sink>(extensions: &[Ext], out: &mut W) -> Result<(), EdidFault>
+// Writes the fields of a base block and its extensions.
+fn write_objects<W: Sink>(base: &Base, extensions: &[Ext], out: &mut W) -> Result<(), EdidFault>
     requires { length extensions.now ≤ 3 }
-    ensures { OnOk result (Appends (W.contents out.old) (W.contents out.new) (extensions_text 1 extensions.now)) }
+    ensures { OnOk result (Appends (W.contents out.old) (W.contents out.new) (edid_text base.now extensions.now)) }
 {
-    match write_fields(extensions, out) {
+    match write_fields(base, extensions, out) {
         Ok(_) => Ok(()),
         Err(fault) => Err(EdidFault::Write(fault)),
     }
@@ -29,7 +30,7 @@ pub fn write_own_fields<W: Sink>(bytes: &[u8], out: &mut W) -> Result<(), EdidFa
 {
     let mut extensions = ArrayVec::new();
     match read_parts(bytes, &mut extensions) {
-        Ok(_base) => write_objects(extensions.as_slice(), out),
+        Ok(base) => write_objects(&base, extensions.as_slice(), out),
         Err(cause) => Err(EdidFault::Edid(cause)),
     }
 }

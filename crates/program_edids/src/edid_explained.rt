@@ -2,6 +2,7 @@
 use crate::edid::{given_to, origin_of};
 use crate::edid_fault::EdidFault;
 use crate::edid_given::{given_of, halves, kept_count};
+use crate::edid_told::told;
 use arrayvec::ArrayString;
 use cli_words::{CommandChoice, EdidReading, Recipient, Source};
 use edid_as_source::{as_source, counted, write_notes};
@@ -41,11 +42,12 @@ fn bytes_for(
 /// What each rule asks that the EDID of an input breaks, for a device, and the values at fault. Of no EDID there is nothing.
 pub fn explain_rules(
     alloc: Global,
-    source: Source,
+    source: Option<Source>,
     reading: EdidReading,
     place: Recipient,
     input: &[u8],
 ) -> Result<String, AllocError> {
+    let source = told(source, input);
     let Ok(bytes) = bytes_for(alloc, source, reading, place, input) else {
         return Ok(String::new(alloc));
     };
@@ -88,10 +90,11 @@ pub fn explain_speakers(alloc: Global) -> Result<String, AllocError> {
 /// Why the EDID of an input has no HDMI block, in indented lines. Of one that has a block there is nothing.
 pub fn explain_lack(
     alloc: Global,
-    source: Source,
+    source: Option<Source>,
     reading: EdidReading,
     input: &[u8],
 ) -> Result<String, AllocError> {
+    let source = told(source, input);
     let mut text = String::new(alloc);
     if let Ok(bytes) = bytes_for(alloc, source, reading, Recipient::Own, input) {
         let explanation = explain_no_hdmi(alloc, &bytes)?;
@@ -164,6 +167,7 @@ pub fn name_read<E: Sink>(alloc: Global, choice: CommandChoice, input: &[u8], er
     else {
         return;
     };
+    let source = told(source, input);
     match source {
         Source::Dump { nth } => name_one(nth, input, err),
         Source::Pair { dumps: true, table } => name_dumps(&table, input, err),

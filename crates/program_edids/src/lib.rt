@@ -7,6 +7,8 @@ mod edid_explained;
 mod edid_fault;
 mod edid_given;
 mod edid_judged;
+mod edid_told;
 
 pub use edid_explained::{explain_lack, explain_merge, explain_rules, explain_speakers, name_read};
 pub use edid_fault::EdidFault;
+pub use edid_told::told;

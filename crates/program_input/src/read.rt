@@ -21,21 +21,18 @@ pub fn limit_of(choice: CommandChoice) -> usize {
     match choice {
         CommandChoice::Mon(MonChoice { form: Some(_), .. })
         | CommandChoice::CheckCapture { form: Some(_), .. }
-        | CommandChoice::Json(
-            Objects::Capture { form: Some(_), .. } | Objects::CaptureTest { form: Some(_), .. },
-        ) => CAPTURE_LIMIT,
+        | CommandChoice::Json(Objects::CaptureTest { form: Some(_), .. }) => CAPTURE_LIMIT,
         CommandChoice::Mon(MonChoice { form: None, .. })
         | CommandChoice::CheckCapture { form: None, .. }
         | CommandChoice::Json(
             Objects::Trace { .. }
             | Objects::Room { .. }
             | Objects::Test { .. }
-            | Objects::Capture { form: None, .. }
             | Objects::CaptureTest { form: None, .. },
         )
         | CommandChoice::Run { .. }
         | CommandChoice::Check(_)
-        | CommandChoice::Step
+        | CommandChoice::Step { .. }
         | CommandChoice::Live { .. }
         | CommandChoice::Follow { .. }
         | CommandChoice::Asm

@@ -5,6 +5,7 @@ use Rattle.std.proofs.Math.Seq.{take-suc}
 use Rattle.std.specs.List.{flat_map, list_all}
 use Rattle.text_core.specs.Adds.{Adds, Tally}
 use Rattle.text_core.proofs.Adding.{nothing, then}
+use Rattle.text_core.proofs.Cutting.{more_parts}
 use Rattle.text_core.specs.Piece.{hex_text}
 use Rattle.record_core.specs.Cells.{gathered, joined, listed, rest_joined, rest_listed}
 use Rattle.record_core.specs.Records.{as_text}
@@ -70,6 +71,12 @@ none_as q a = adds_as a a [] _ (as_none q) (nothing a)
 
 pub alone_as : (q : Bool) (a b : Tally) (xs : List ℕ) → Adds a b (as_text q xs) → Adds a b (as_text q (xs ++ []))
 alone_as q a b xs adds = adds_as a b _ _ (ap (as_text q) (sym (append-nil xs))) adds
+
+-- one more of a list
+pub more_as : {X : Type 0} (q : Bool) (f : X → List ℕ) (xs : List X) (i : ℕ) (x : X) (a b c : Tally) → i < length xs → get_or xs i x ≡ x
+    → Adds a b (as_text q (flat_map f (take i xs))) → Adds b c (as_text q (f x)) → Adds a c (as_text q (flat_map f (take (i + 1) xs)))
+more_as q f xs i x a b c h item before part =
+    adds_as a c _ _ (ap (as_text q) (sym (more_parts f xs i x h item))) (then_as q a b c (flat_map f (take i xs)) (f x) before part)
 
 -- ---- the first of a list, and the others
 

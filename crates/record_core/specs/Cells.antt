@@ -5,14 +5,17 @@ use Rattle.std.specs.List.{flat_map}
 use Rattle.text_core.specs.Piece.{hex_text, nibble_text, phys_text, piece_text}
 use Rattle.text_core.specs.declared.piece.Piece.{Piece}
 use Rattle.text_core.specs.declared.piece.Piece.TheVariants as piece
-use Rattle.record_core.specs.Strings.{string_text, text_value}
+use Rattle.record_core.specs.Strings.{escaped_text, string_text, text_value}
 use Rattle.record_core.specs.declared.cell.Cell.{Cell}
 use Rattle.record_core.specs.declared.cell.Out.{Out}
 use Rattle.record_core.specs.declared.cell.Part.{Part}
+use Rattle.record_core.specs.declared.cell.Position.{Position}
+use Rattle.record_core.specs.declared.cell.Position.TheVariants.{Named, Slot}
 use Rattle.record_core.specs.declared.cell.Shown.{Shown}
 use Rattle.record_core.specs.declared.cell.Shown.TheVariants as shown
+use Rattle.record_core.specs.declared.cell.Stand.{Stand}
 use Rattle.record_core.specs.declared.cell.Value.{Value}
-use Rattle.record_core.specs.declared.cell.Value.TheVariants.{Nothing, One, String, List as Listed, Parts, Outs}
+use Rattle.record_core.specs.declared.cell.Value.TheVariants.{Nothing, One, String, Escaped, List as Listed, Parts, Outs, Stands, Verdicts}
 
 -- ---- words of a line
 
@@ -30,13 +33,45 @@ part_text p = piece_text p.piece
 abbrev pub out_text : Out → List ℕ
 out_text o = o.name.now ++ (codes "@" ++ decimal o.slot)
 
+-- bits as digits, and a dash for none
+abbrev pub bit_text : Bool → List ℕ
+bit_text true = codes "1"
+bit_text false = codes "0"
+
+abbrev pub digits_text : List Bool → List ℕ
+digits_text bits = flat_map bit_text bits
+
+abbrev pub bits_text : List Bool → List ℕ
+bits_text [] = codes "-"
+bits_text (b ∷ bits) = digits_text (b ∷ bits)
+
+abbrev pub slot_text : ℕ → List Bool → List ℕ
+slot_text slot bits = (codes "slot:" ++ decimal slot) ++ (codes ":" ++ bits_text bits)
+
+abbrev pub position_text : Position → List ℕ
+position_text (Named word) = word.now
+position_text (Slot slot bits) = slot_text slot bits.now
+
+abbrev pub placed_text : List ℕ → List ℕ → List ℕ
+placed_text name position = (codes " " ++ name) ++ (codes "=" ++ position)
+
+abbrev pub stand_text : Stand → List ℕ
+stand_text s = placed_text s.name.now (position_text s.position)
+
+abbrev pub verdict_text : Bool → List ℕ
+verdict_text true = codes " ok"
+verdict_text false = codes " not-ok"
+
 abbrev pub value_text : Value → List ℕ
 value_text Nothing = []
 value_text (One p) = piece_text p
 value_text (String text) = text.now
+value_text (Escaped text) = escaped_text text.now
 value_text (Listed sign ps) = joined piece_text sign.now ps.now
 value_text (Parts sign ps) = joined part_text sign.now ps.now
 value_text (Outs os) = joined out_text (codes ",") os.now
+value_text (Stands ss) = flat_map stand_text ss.now
+value_text (Verdicts vs) = flat_map verdict_text vs.now
 
 -- ---- values of an object
 
@@ -100,13 +135,37 @@ slot_json name slot = (codes "{\"device\":" ++ string_text name) ++ (codes ",\"s
 abbrev pub out_json : Out → List ℕ
 out_json o = slot_json o.name.now o.slot
 
+abbrev pub bits_json : List Bool → List ℕ
+bits_json [] = codes "null"
+bits_json (b ∷ bits) = codes "\"" ++ (digits_text (b ∷ bits) ++ codes "\"")
+
+-- `slot` and `bits` of a place outside of the slots are null
+abbrev pub named_position_json : List ℕ → List ℕ
+named_position_json word = codes ",\"position\":" ++ (string_text word ++ codes ",\"slot\":null,\"bits\":null}")
+
+abbrev pub slot_position_json : ℕ → List Bool → List ℕ
+slot_position_json slot bits = (codes ",\"position\":\"slot\",\"slot\":" ++ decimal slot) ++ (codes ",\"bits\":" ++ (bits_json bits ++ codes "}"))
+
+abbrev pub position_json : Position → List ℕ
+position_json (Named word) = named_position_json word.now
+position_json (Slot slot bits) = slot_position_json slot bits.now
+
+abbrev pub placed_json : List ℕ → List ℕ → List ℕ
+placed_json name position = (codes "{\"device\":" ++ string_text name) ++ position
+
+abbrev pub stand_json : Stand → List ℕ
+stand_json s = placed_json s.name.now (position_json s.position)
+
 abbrev pub value_json : Value → List ℕ
 value_json Nothing = codes "null"
 value_json (One p) = piece_json p
 value_json (String text) = string_text text.now
+value_json (Escaped text) = string_text text.now
 value_json (Listed sign ps) = listed item_json ps.now
 value_json (Parts sign ps) = gathered part_json ps.now
 value_json (Outs os) = listed out_json os.now
+value_json (Stands ss) = listed stand_json ss.now
+value_json (Verdicts vs) = listed switch_json vs.now
 
 -- ---- by these texts alone: what a definition says of a line in the place of its cells
 

@@ -6,8 +6,8 @@ use Rattle.text_core.specs.Piece.{hex_or_dash, hex_text, piece_text}
 use Rattle.text_core.specs.declared.phys.Phys.{Phys as Address}
 use Rattle.text_core.specs.declared.piece.Piece.{Piece}
 use Rattle.text_core.specs.declared.piece.Piece.TheVariants.{Decimal, DecimalOrDash, HexByte, HexByteOrDash, Nibble, NibbleOrDash, Phys, PhysOrDash, Switch}
-use Rattle.record_core.specs.Cells.{PlainValue, bytes_json, gathered, in_quotes, item_json, joined, listed, named_json, piece_json, slot_json}
-use Rattle.record_core.specs.Strings.{string_text, text_value}
+use Rattle.record_core.specs.Cells.{PlainValue, bytes_json, gathered, in_quotes, item_json, joined, listed, named_json, named_position_json, piece_json, placed_json, placed_text, slot_json, slot_position_json, slot_text, switch_json, verdict_text}
+use Rattle.record_core.specs.Strings.{escaped_text, string_text, text_value}
 
 abbrev pub plain : List ℕ → List ℕ → PlainValue
 plain word json = record { word = word; json = json }
@@ -22,6 +22,10 @@ text word = plain word (text_value word)
 -- a text, which is a string whatever it says
 abbrev pub string : List ℕ → PlainValue
 string word = plain word (string_text word)
+
+-- the text of a test, with its backslashes in the line alone
+abbrev pub escaped : List ℕ → PlainValue
+escaped word = plain (escaped_text word) (string_text word)
 
 -- bytes in hex
 abbrev pub hex : List ℕ → PlainValue
@@ -78,3 +82,19 @@ parts name of sign xs = plain (joined (λ x. (of x).word) sign xs) (gathered (λ
 -- a device, and the slot at which it stopped
 abbrev pub out : List ℕ → ℕ → PlainValue
 out name slot = plain (name ++ (codes "@" ++ decimal slot)) (slot_json name slot)
+
+-- where a receiver stands: at a place with a name, or in a slot, with the bits so far
+abbrev pub at_place : List ℕ → PlainValue
+at_place word = plain word (named_position_json word)
+
+abbrev pub in_slot : ℕ → List Bool → PlainValue
+in_slot slot bits = plain (slot_text slot bits) (slot_position_json slot bits)
+
+-- devices, each after a space, with where they stand
+abbrev pub stands : {X : Type 0} → (X → List ℕ) → (X → PlainValue) → List X → PlainValue
+stands name position xs =
+    plain (flat_map (λ x. placed_text (name x) (position x).word) xs) (listed (λ x. placed_json (name x) (position x).json) xs)
+
+-- of each test whether it holds, each after a space
+abbrev pub verdicts : List Bool → PlainValue
+verdicts vs = plain (flat_map verdict_text vs) (listed switch_json vs)

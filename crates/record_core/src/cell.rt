@@ -15,6 +15,31 @@ impl Default for Out<'_> {
     }
 }
 
+/// Where a receiver stands in what it reads.
+#[derive(Clone, Copy)]
+pub enum Position<'a> {
+    /// At a place of this name, outside of the slots of a frame.
+    Named(&'a str),
+    /// In the slot of this number, with the bits sampled so far.
+    Slot(u64, &'a [bool]),
+}
+
+/// A device, and where its receiver stands.
+#[derive(Clone, Copy)]
+pub struct Stand<'a> {
+    pub name: &'a [u8],
+    pub position: Position<'a>,
+}
+
+impl Default for Stand<'_> {
+    fn default() -> Self {
+        Stand {
+            name: b"",
+            position: Position::Named(""),
+        }
+    }
+}
+
 /// A part of a value that has several, and the name that its field has in the value's object.
 #[derive(Clone, Copy)]
 pub struct Part<'a> {
@@ -40,12 +65,19 @@ pub enum Value<'a> {
     One(Piece<'a>),
     /// Bytes as they stand, and the string of them: `-` is no null here.
     String(&'a [u8]),
+    /// Bytes with a backslash before each number sign and each backslash, as a test's line has them (Test Anything Protocol), and the
+    /// string of the bytes alone.
+    Escaped(&'a [u8]),
     /// Words with a sign between them, or a dash. A list of their values; of texts it has strings, and no null.
     List(&'a str, &'a [Piece<'a>]),
     /// Words with a sign between them, or a dash. One object of their values, or null.
     Parts(&'a str, &'a [Part<'a>]),
     /// Devices with their slots, with commas between them, or a dash. A list of objects.
     Outs(&'a [Out<'a>]),
+    /// Devices with where they stand, each after a space. A list of objects.
+    Stands(&'a [Stand<'a>]),
+    /// `ok` or `not-ok` of each, after a space. A list of true and false.
+    Verdicts(&'a [bool]),
 }
 
 /// Where the value of a cell stands.

@@ -9,7 +9,7 @@ mod line;
 mod object;
 mod strings;
 
-pub use cell::{Cell, Form, Out, Part, Shown, Value};
+pub use cell::{Cell, Form, Out, Part, Position, Shown, Stand, Value};
 pub use gather::{add_record, add_record_with};
 pub use laws::{lines_are_read_back, lines_have_parts, one_line_an_object};
 pub use strings::add_quoted;

@@ -4,10 +4,11 @@ ghost use Rattle.std.specs.Fmt.{decimal};
 ghost use Rattle.std.specs.List.{flat_map};
 ghost use Rattle.text_core.specs.Adds.{Adds};
 ghost use Rattle.text_core.specs.Piece.{hex_or_dash, hex_text, piece_text};
-ghost use Rattle.record_core.specs.Cells.{joined, out_text, part_text, plain_of, rest_joined, value_text};
+ghost use Rattle.record_core.specs.Cells.{bit_text, bits_text, digits_text, joined, out_text, part_text, placed_text, plain_of, position_text, rest_joined, slot_text, stand_text, value_text, verdict_text};
 ghost use Rattle.record_core.specs.Records.{as_text, line_of, said, word_text};
+ghost use Rattle.record_core.specs.Strings.{escaped_byte, escaped_text};
 
-use crate::cell::{Cell, Out, Part, Shown, Value};
+use crate::cell::{Cell, Out, Part, Position, Shown, Stand, Value};
 use crate::strings::add_chars;
 use text_core::{Counted, Piece, Sink, hex_digit};
 
@@ -205,6 +206,137 @@ fn add_outs<S: Sink>(out: &mut Counted<'_, S>, quoted: bool, outs: &[Out])
     }
 }
 
+fn add_escaped_byte<S: Sink>(out: &mut Counted<'_, S>, quoted: bool, byte: u8)
+    ensures { Adds out.old out.new (as_text quoted (escaped_byte byte)) }
+{
+    if byte == b'#' || byte == b'\\' {
+        add_bytes(out, quoted, &[b'\\', byte]);
+    } else {
+        add_bytes(out, quoted, &[byte]);
+    }
+}
+
+fn add_escaped<S: Sink>(out: &mut Counted<'_, S>, quoted: bool, text: &[u8])
+    ensures { Adds out.old out.new (as_text quoted (escaped_text text.now)) }
+{
+    for byte in text {
+        add_escaped_byte(out, quoted, *byte);
+    }
+}
+
+fn add_bit<S: Sink>(out: &mut Counted<'_, S>, quoted: bool, bit: bool)
+    ensures { Adds out.old out.new (as_text quoted (bit_text bit)) }
+{
+    if bit {
+        add_bytes(out, quoted, b"1");
+    } else {
+        add_bytes(out, quoted, b"0");
+    }
+}
+
+fn add_digits<S: Sink>(out: &mut Counted<'_, S>, quoted: bool, bits: &[bool])
+    ensures { Adds out.old out.new (as_text quoted (digits_text bits.now)) }
+{
+    for bit in bits {
+        add_bit(out, quoted, *bit);
+    }
+}
+
+fn add_bits<S: Sink>(out: &mut Counted<'_, S>, quoted: bool, bits: &[bool])
+    ensures { Adds out.old out.new (as_text quoted (bits_text bits.now)) }
+{
+    match bits {
+        [] => add_bytes(out, quoted, b"-"),
+        _ => add_digits(out, quoted, bits),
+    }
+}
+
+#[tactic(auto, using(crate::proofs::Plain::then_as))]
+fn add_slot_number<S: Sink>(out: &mut Counted<'_, S>, quoted: bool, slot: u64)
+    ensures { Adds out.old out.new (as_text quoted (codes "slot:" ++ decimal slot)) }
+{
+    add_bytes(out, quoted, b"slot:");
+    add_number(out, quoted, slot);
+}
+
+#[tactic(auto, using(crate::proofs::Plain::then_as))]
+fn add_slot_bits<S: Sink>(out: &mut Counted<'_, S>, quoted: bool, bits: &[bool])
+    ensures { Adds out.old out.new (as_text quoted (codes ":" ++ bits_text bits.now)) }
+{
+    add_bytes(out, quoted, b":");
+    add_bits(out, quoted, bits);
+}
+
+#[tactic(auto, using(crate::proofs::Plain::then_as))]
+fn add_in_slot<S: Sink>(out: &mut Counted<'_, S>, quoted: bool, slot: u64, bits: &[bool])
+    ensures { Adds out.old out.new (as_text quoted (slot_text slot bits.now)) }
+{
+    add_slot_number(out, quoted, slot);
+    add_slot_bits(out, quoted, bits);
+}
+
+fn add_position<S: Sink>(out: &mut Counted<'_, S>, quoted: bool, position: Position)
+    ensures { Adds out.old out.new (as_text quoted (position_text position.entry)) }
+{
+    match position {
+        Position::Named(word) => add_bytes(out, quoted, word.as_bytes()),
+        Position::Slot(slot, bits) => add_in_slot(out, quoted, slot, bits),
+    }
+}
+
+#[tactic(auto, using(crate::proofs::Plain::then_as))]
+fn add_device<S: Sink>(out: &mut Counted<'_, S>, quoted: bool, name: &[u8])
+    ensures { Adds out.old out.new (as_text quoted (codes " " ++ name.now)) }
+{
+    add_bytes(out, quoted, b" ");
+    add_bytes(out, quoted, name);
+}
+
+#[tactic(auto, using(crate::proofs::Plain::then_as))]
+fn add_place<S: Sink>(out: &mut Counted<'_, S>, quoted: bool, position: Position)
+    ensures { Adds out.old out.new (as_text quoted (codes "=" ++ position_text position.entry)) }
+{
+    add_bytes(out, quoted, b"=");
+    add_position(out, quoted, position);
+}
+
+// Adds a device after a space, with where it stands.
+#[tactic(auto, using(crate::proofs::Plain::then_as))]
+fn add_stand<S: Sink>(out: &mut Counted<'_, S>, quoted: bool, stand: &Stand)
+    ensures { Adds out.old out.new (as_text quoted (stand_text stand.now)) }
+{
+    add_device(out, quoted, stand.name);
+    add_place(out, quoted, stand.position);
+}
+
+#[tactic(auto, using(crate::proofs::Plain::none_as))]
+fn add_stands<S: Sink>(out: &mut Counted<'_, S>, quoted: bool, stands: &[Stand])
+    ensures { Adds out.old out.new (as_text quoted (flat_map stand_text stands.now)) }
+{
+    if let [stand, others @ ..] = stands {
+        add_stand(out, quoted, stand);
+        add_stands(out, quoted, others);
+    }
+}
+
+fn add_verdict<S: Sink>(out: &mut Counted<'_, S>, quoted: bool, holds: bool)
+    ensures { Adds out.old out.new (as_text quoted (verdict_text holds)) }
+{
+    if holds {
+        add_bytes(out, quoted, b" ok");
+    } else {
+        add_bytes(out, quoted, b" not-ok");
+    }
+}
+
+fn add_verdicts<S: Sink>(out: &mut Counted<'_, S>, quoted: bool, verdicts: &[bool])
+    ensures { Adds out.old out.new (as_text quoted (flat_map verdict_text verdicts.now)) }
+{
+    for holds in verdicts {
+        add_verdict(out, quoted, *holds);
+    }
+}
+
 // Adds what stands before a value, and the value.
 #[tactic(auto, using(crate::proofs::Plain::alone_as, crate::proofs::Plain::then_as))]
 fn add_led<'a, S: Sink>(out: &mut Counted<'_, S>, quoted: bool, lead: &'a str, value: &Value<'a>)
@@ -225,6 +357,18 @@ fn add_led<'a, S: Sink>(out: &mut Counted<'_, S>, quoted: bool, lead: &'a str, v
         Value::Outs(outs) => {
             add_bytes(out, quoted, lead.as_bytes());
             add_outs(out, quoted, outs);
+        }
+        Value::Escaped(text) => {
+            add_bytes(out, quoted, lead.as_bytes());
+            add_escaped(out, quoted, text);
+        }
+        Value::Stands(stands) => {
+            add_bytes(out, quoted, lead.as_bytes());
+            add_stands(out, quoted, stands);
+        }
+        Value::Verdicts(verdicts) => {
+            add_bytes(out, quoted, lead.as_bytes());
+            add_verdicts(out, quoted, verdicts);
         }
     }
 }

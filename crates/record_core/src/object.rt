@@ -1,12 +1,14 @@
 //! The object of a line.
 ghost use Rattle.std.specs.Prelude.{codes, map, ◌++◌, ◌∷◌, []};
+ghost use Rattle.std.specs.Fmt.{decimal};
 ghost use Rattle.std.specs.List.{flat_map};
 ghost use Rattle.text_core.specs.Adds.{Adds};
 ghost use Rattle.text_core.specs.Piece.{piece_text};
-ghost use Rattle.record_core.specs.Cells.{bytes_json, gathered, in_quotes, item_json, listed, named_json, out_json, part_json, piece_json, plain_of, rest_listed, switch_json, value_json};
+ghost use Rattle.record_core.specs.Cells.{bit_text, bits_json, bytes_json, digits_text, gathered, in_quotes, item_json, listed, named_json, named_position_json, out_json, part_json, piece_json, plain_of, position_json, rest_listed, slot_position_json, stand_json, switch_json, value_json};
 ghost use Rattle.record_core.specs.Records.{field_text, object_of};
+ghost use Rattle.record_core.specs.Strings.{string_text};
 
-use crate::cell::{Cell, Out, Part, Shown, Value};
+use crate::cell::{Cell, Out, Part, Position, Shown, Stand, Value};
 use crate::line::add_words;
 use crate::strings::{add_quoted, add_text};
 use text_core::{Counted, Piece, Sink};
@@ -125,7 +127,9 @@ fn add_list<S: Sink>(out: &mut Counted<'_, S>, pieces: &[Piece])
 fn add_name<S: Sink>(out: &mut Counted<'_, S>, name: &str)
     ensures { Adds out.old out.new (codes "\"" ++ (name.now ++ codes "\":")) }
 {
-    out.add_line(&[Piece::Text("\""), Piece::Text(name), Piece::Text("\":")]);
+    out.add(b"\"");
+    out.add(name.as_bytes());
+    out.add(b"\":");
 }
 
 fn add_part<S: Sink>(out: &mut Counted<'_, S>, part: &Part)
@@ -219,6 +223,164 @@ fn add_outs<S: Sink>(out: &mut Counted<'_, S>, outs: &[Out])
     }
 }
 
+fn add_bit<S: Sink>(out: &mut Counted<'_, S>, bit: bool)
+    ensures { Adds out.old out.new (bit_text bit) }
+{
+    if bit {
+        out.add(b"1");
+    } else {
+        out.add(b"0");
+    }
+}
+
+fn add_digits<S: Sink>(out: &mut Counted<'_, S>, bits: &[bool])
+    ensures { Adds out.old out.new (digits_text bits.now) }
+{
+    for bit in bits {
+        add_bit(out, *bit);
+    }
+}
+
+fn add_quoted_digits<S: Sink>(out: &mut Counted<'_, S>, bits: &[bool])
+    ensures { Adds out.old out.new (codes "\"" ++ (digits_text bits.now ++ codes "\"")) }
+{
+    out.add(b"\"");
+    add_digits(out, bits);
+    out.add(b"\"");
+}
+
+fn add_bits<S: Sink>(out: &mut Counted<'_, S>, bits: &[bool])
+    ensures { Adds out.old out.new (bits_json bits.now) }
+{
+    match bits {
+        [] => out.add(b"null"),
+        _ => add_quoted_digits(out, bits),
+    }
+}
+
+fn add_slot_number<S: Sink>(out: &mut Counted<'_, S>, slot: u64)
+    ensures { Adds out.old out.new (codes ",\"position\":\"slot\",\"slot\":" ++ decimal slot) }
+{
+    out.add(b",\"position\":\"slot\",\"slot\":");
+    out.add_line(&[Piece::Decimal(slot)]);
+}
+
+fn add_slot<S: Sink>(out: &mut Counted<'_, S>, slot: u64, bits: &[bool])
+    ensures { Adds out.old out.new (slot_position_json slot bits.now) }
+{
+    add_slot_number(out, slot);
+    out.add(b",\"bits\":");
+    add_bits(out, bits);
+    out.add(b"}");
+}
+
+fn add_named_position<S: Sink>(out: &mut Counted<'_, S>, word: &[u8])
+    ensures { Adds out.old out.new (named_position_json word.now) }
+{
+    out.add(b",\"position\":");
+    add_quoted(out, word);
+    out.add(b",\"slot\":null,\"bits\":null}");
+}
+
+fn add_position<S: Sink>(out: &mut Counted<'_, S>, position: Position)
+    ensures { Adds out.old out.new (position_json position.entry) }
+{
+    match position {
+        Position::Named(word) => add_named_position(out, word.as_bytes()),
+        Position::Slot(slot, bits) => add_slot(out, slot, bits),
+    }
+}
+
+fn add_device<S: Sink>(out: &mut Counted<'_, S>, name: &[u8])
+    ensures { Adds out.old out.new (codes "{\"device\":" ++ string_text name.now) }
+{
+    out.add(b"{\"device\":");
+    add_quoted(out, name);
+}
+
+fn add_stand<S: Sink>(out: &mut Counted<'_, S>, stand: &Stand)
+    ensures { Adds out.old out.new (stand_json stand.now) }
+{
+    add_device(out, stand.name);
+    add_position(out, stand.position);
+}
+
+#[tactic(auto, using(text_core::proofs::Adding::nothing))]
+fn add_more_stands<S: Sink>(out: &mut Counted<'_, S>, stands: &[Stand])
+    ensures { Adds out.old out.new (rest_listed stand_json stands.now) }
+{
+    if let [stand, others @ ..] = stands {
+        out.add(b",");
+        add_stand(out, stand);
+        add_more_stands(out, others);
+    }
+}
+
+fn add_first_stand<S: Sink>(out: &mut Counted<'_, S>, stand: &Stand)
+    ensures { Adds out.old out.new (codes "[" ++ stand_json stand.now) }
+{
+    out.add(b"[");
+    add_stand(out, stand);
+}
+
+fn add_other_stands<S: Sink>(out: &mut Counted<'_, S>, others: &[Stand])
+    ensures { Adds out.old out.new (rest_listed stand_json others.now ++ codes "]") }
+{
+    add_more_stands(out, others);
+    out.add(b"]");
+}
+
+fn add_stands<S: Sink>(out: &mut Counted<'_, S>, stands: &[Stand])
+    ensures { Adds out.old out.new (listed stand_json stands.now) }
+{
+    if let [stand, others @ ..] = stands {
+        add_first_stand(out, stand);
+        add_other_stands(out, others);
+    } else {
+        out.add(b"[]");
+    }
+}
+
+fn add_verdict<S: Sink>(out: &mut Counted<'_, S>, holds: bool)
+    ensures { Adds out.old out.new (codes "," ++ switch_json holds) }
+{
+    out.add(b",");
+    add_switch(out, holds);
+}
+
+fn add_more_verdicts<S: Sink>(out: &mut Counted<'_, S>, verdicts: &[bool])
+    ensures { Adds out.old out.new (rest_listed switch_json verdicts.now) }
+{
+    for holds in verdicts {
+        add_verdict(out, *holds);
+    }
+}
+
+fn add_first_verdict<S: Sink>(out: &mut Counted<'_, S>, holds: bool)
+    ensures { Adds out.old out.new (codes "[" ++ switch_json holds) }
+{
+    out.add(b"[");
+    add_switch(out, holds);
+}
+
+fn add_other_verdicts<S: Sink>(out: &mut Counted<'_, S>, others: &[bool])
+    ensures { Adds out.old out.new (rest_listed switch_json others.now ++ codes "]") }
+{
+    add_more_verdicts(out, others);
+    out.add(b"]");
+}
+
+fn add_verdicts<S: Sink>(out: &mut Counted<'_, S>, verdicts: &[bool])
+    ensures { Adds out.old out.new (listed switch_json verdicts.now) }
+{
+    if let [holds, others @ ..] = verdicts {
+        add_first_verdict(out, *holds);
+        add_other_verdicts(out, others);
+    } else {
+        out.add(b"[]");
+    }
+}
+
 fn add_value<S: Sink>(out: &mut Counted<'_, S>, value: &Value)
     ensures { Adds out.old out.new (value_json value.now) }
 {
@@ -229,6 +391,9 @@ fn add_value<S: Sink>(out: &mut Counted<'_, S>, value: &Value)
         Value::List(_, pieces) => add_list(out, pieces),
         Value::Parts(_, parts) => add_parts(out, parts),
         Value::Outs(outs) => add_outs(out, outs),
+        Value::Escaped(text) => add_quoted(out, text),
+        Value::Stands(stands) => add_stands(out, stands),
+        Value::Verdicts(verdicts) => add_verdicts(out, verdicts),
     }
 }
 

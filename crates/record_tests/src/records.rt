@@ -1,5 +1,7 @@
 //! Each value, as a word of a line and as a field of an object.
-use record_core::{Cell, Form, Out, Part, Value, add_record, add_record_with, cells};
+use record_core::{
+    Cell, Form, Out, Part, Position, Stand, Value, add_record, add_record_with, cells,
+};
 use std::process::Abort;
 use text_core::{Counted, Phys, Piece, Writes};
 
@@ -149,6 +151,60 @@ fn devices_that_stopped(rt: HostRuntime) {
         "[{\"device\":\"p1\",\"slot\":3},{\"device\":\"-\",\"slot\":12}]",
     );
     is_written(&rt, Value::Outs(&[]), "-", "-", "[]");
+}
+
+#[test]
+fn where_receivers_stand(rt: HostRuntime) {
+    let stands = [
+        Stand {
+            name: b"tv",
+            position: Position::Named("start-high"),
+        },
+        Stand {
+            name: b"amp",
+            position: Position::Slot(3, &[false, true, false]),
+        },
+        Stand {
+            name: b"-",
+            position: Position::Slot(1, &[]),
+        },
+    ];
+    is_written(
+        &rt,
+        Value::Stands(&stands),
+        " tv=start-high amp=slot:3:010 -=slot:1:-",
+        " tv=start-high amp=slot:3:010 -=slot:1:-",
+        "[{\"device\":\"tv\",\"position\":\"start-high\",\"slot\":null,\"bits\":null},\
+         {\"device\":\"amp\",\"position\":\"slot\",\"slot\":3,\"bits\":\"010\"},\
+         {\"device\":\"-\",\"position\":\"slot\",\"slot\":1,\"bits\":null}]",
+    );
+    is_written(&rt, Value::Stands(&[]), "", "", "[]");
+}
+
+// Test Anything Protocol, version 13: a number sign begins a directive, so in a text it has a backslash before it.
+#[test]
+fn texts_of_tests(rt: HostRuntime) {
+    is_written(
+        &rt,
+        Value::Escaped(b"at 5 # \\"),
+        "at 5 \\# \\\\",
+        "at 5 \\\\# \\\\\\\\",
+        "\"at 5 # \\\\\"",
+    );
+    is_written(&rt, Value::Escaped(b"-"), "-", "-", "\"-\"");
+    is_written(&rt, Value::Escaped(b""), "", "", "\"\"");
+}
+
+#[test]
+fn verdicts(rt: HostRuntime) {
+    is_written(
+        &rt,
+        Value::Verdicts(&[true, false, true]),
+        " ok not-ok ok",
+        " ok not-ok ok",
+        "[true,false,true]",
+    );
+    is_written(&rt, Value::Verdicts(&[]), "", "", "[]");
 }
 
 #[test]

@@ -1,183 +1,131 @@
-//! The line of an edge.
-ghost use Rattle.std.specs.Prelude.{◌≡◌, ◌≤◌, ◌∷◌, ◌++◌, [], codes, length};
+//! The line of an edge, or its object.
+ghost use Rattle.std.specs.Prelude.{◌≡◌, ◌+◌, ◌<◌, ◌≤◌, ◌++◌, codes, length, map};
 ghost use Rattle.std.specs.List.{flat_map};
 ghost use Rattle.line_reading.specs.Follows.{standing_by_code};
+ghost use Rattle.record_core.specs.Records.{record_text};
 ghost use Rattle.text_core.specs.Adds.{Adds};
 ghost use Rattle.text_core.specs.Cut.{WrittenText};
-ghost use Rattle.message_text.specs.ReadingText.{bit_digit, bits_text};
-ghost use Rattle.room_step_text.specs.EdgeText.{device_text, edge_line, level_text, name_text, slot_text, standing_text};
-ghost use Rattle.line_frames.specs.Bits.{most_bits};
+ghost use Rattle.room_step_text.specs.EdgeText.{edge_text, level_number, level_word, position_value, stand_part, standing_device, standing_value, stands_value, stood_cells};
 
 use arrayvec::ArrayVec;
 use device_core::Device;
-use line_frames::MOST_BITS;
 use line_reading::Standing;
 use line_wave::Edge;
+use record_core::{Form, Position, Stand, Value, add_record, cells};
 use text_core::{Counted, Piece, Sink, WriteFault};
 
-// Adds the instant of an edge, and the level that the line then has.
-fn add_level<S: Sink>(out: &mut Counted<'_, S>, edge: Edge)
-    ensures { Adds out.old out.new (level_text edge) }
-{
-    let level = if edge.low { " low" } else { " high" };
-    out.add_line(&[Piece::Decimal(edge.at), Piece::Text(level)]);
-}
+/// The most devices of a room.
+const MOST: usize = 15;
 
-fn add_word<S: Sink>(out: &mut Counted<'_, S>, word: &str)
-    ensures { Adds out.old out.new word.now }
-{
-    out.add(word.as_bytes());
-}
-
-fn add_bit<S: Sink>(out: &mut Counted<'_, S>, bit: bool)
-    ensures { Adds out.old out.new (bit_digit bit ∷ []) }
-{
-    let digit = if bit { "1" } else { "0" };
-    out.add_line(&[Piece::Text(digit)]);
-}
-
-// Adds bits as digits.
-fn add_digits<S: Sink>(out: &mut Counted<'_, S>, bits: &[bool])
-    ensures { Adds out.old out.new (flat_map (λ bit. bit_digit bit ∷ []) bits.now) }
-{
-    for bit in bits {
-        add_bit(out, *bit);
-    }
-}
-
-fn digit_of(bit: bool) -> u8
-    ensures { result ≡ bit_digit bit }
-{
-    if bit { b'1' } else { b'0' }
-}
-
-// Bits as digits, or `-` for none.
-fn digits_of(bits: &[bool]) -> ArrayVec<u8, MOST_BITS>
-    requires { length bits.now ≤ most_bits }
-    ensures { result.items ≡ bits_text bits.now }
-{
-    let mut digits = ArrayVec::new();
-    if bits.is_empty() {
-        digits.push(b'-');
-        return digits;
-    }
-    for bit in bits {
-        digits.push(digit_of(*bit));
-    }
-    digits
-}
-
-fn add_row<S: Sink>(out: &mut Counted<'_, S>, bits: &[bool])
-    requires { length bits.now ≤ most_bits }
-    ensures { Adds out.old out.new (bits_text bits.now) }
-{
-    out.add(&digits_of(bits));
-}
-
-// Adds bits as digits, or `-` for none.
-fn add_bits<S: Sink>(out: &mut Counted<'_, S>, bits: &[bool])
-    ensures { Adds out.old out.new (bits_text bits.now) }
-{
-    if bits.len() <= MOST_BITS {
-        add_row(out, bits);
-        return;
-    }
-    if bits.is_empty() {
-        add_word(out, "-");
-    } else {
-        add_digits(out, bits);
-    }
-}
-
-fn add_slot_number<S: Sink>(out: &mut Counted<'_, S>, slot: usize)
-    ensures { Adds out.old out.new (slot_text slot) }
-{
-    out.add_line(&[
-        Piece::Text("slot:"),
-        Piece::Decimal(slot as u64),
-        Piece::Text(":"),
-    ]);
-}
-
-// Adds the slot in which a receiver stands, and the bits that it has sampled.
-fn add_slot<S: Sink>(out: &mut Counted<'_, S>, slot: usize, bits: &[bool])
-    ensures { Adds out.old out.new (slot_text slot ++ bits_text bits.now) }
-{
-    add_slot_number(out, slot);
-    add_bits(out, bits);
-}
-
-// Adds where a receiver stands.
-fn add_standing<S: Sink>(out: &mut Counted<'_, S>, standing: Standing)
-    ensures { Adds out.old out.new (standing_text (standing_by_code standing.entry)) }
+fn position_of(standing: Standing<'_>) -> Position<'_>
+    ensures { position_value result ≡ standing_value (standing_by_code standing.entry) }
 {
     match standing {
-        Standing::Idle => add_word(out, "idle"),
-        Standing::StartLow => add_word(out, "start-low"),
-        Standing::StartHigh => add_word(out, "start-high"),
-        Standing::Slot(slot, bits) => add_slot(out, slot, bits),
-        Standing::WaitHigh => add_word(out, "wait-high"),
+        Standing::Idle => Position::Named("idle"),
+        Standing::StartLow => Position::Named("start-low"),
+        Standing::StartHigh => Position::Named("start-high"),
+        Standing::Slot(slot, bits) => Position::Slot(slot as u64, bits),
+        Standing::WaitHigh => Position::Named("wait-high"),
     }
 }
 
-fn add_name<S: Sink>(out: &mut Counted<'_, S>, name: &[u8])
-    ensures { Adds out.old out.new (name_text name.now) }
-{
-    out.add_line(&[Piece::Text(" "), Piece::Bytes(name), Piece::Text("=")]);
-}
-
-// Adds the name of a device, and where it stands.
-fn add_plugged<S: Sink>(out: &mut Counted<'_, S>, device: &Device<16>, standing: Standing)
-    ensures { Adds out.old out.new (name_text device.now.name ++ standing_text (standing_by_code standing.entry)) }
-{
-    add_name(out, device.name());
-    add_standing(out, standing);
-}
-
-// Adds it for a device on the wire, and nothing of another device.
-#[tactic(auto, using(text_core::proofs::Adding::nothing))]
-fn add_device<S: Sink>(out: &mut Counted<'_, S>, device: &Device<16>, standing: Standing)
-    ensures { Adds out.old out.new (device_text (standing_by_code standing.entry) device.now) }
+// Adds a device that is on the wire.
+fn push_stand<'a>(
+    stands: &mut ArrayVec<Stand<'a>, MOST>,
+    device: &'a Device<16>,
+    position: Position<'a>,
+)
+    requires { length stands.old.items < 15 }
+    ensures parts { map stand_part stands.new.items ≡ map stand_part stands.old.items ++ standing_device (position_value position.entry) device.now }
+    ensures few { length stands.new.items ≤ length stands.old.items + 1 }
 {
     if device.is_on_wire() {
-        add_plugged(out, device, standing);
+        stands.push(Stand {
+            name: device.name(),
+            position,
+        });
     }
 }
 
-// Adds where each device on the wire stands. All of them hear one line, so that they stand alike.
-fn add_devices<S: Sink>(out: &mut Counted<'_, S>, devices: &[Device<16>], standing: Standing)
-    ensures { Adds out.old out.new (flat_map (device_text (standing_by_code standing.entry)) devices.now) }
+// The devices on the wire. All of them hear one line, so that they stand alike.
+fn stands_of<'a>(devices: &'a [Device<16>], position: Position<'a>) -> ArrayVec<Stand<'a>, MOST>
+    requires { length devices.now ≤ 15 }
+    ensures { map stand_part result.items ≡ flat_map (standing_device (position_value position.entry)) devices.now }
 {
+    let mut stands = ArrayVec::new();
     for device in devices {
-        add_device(out, device, standing);
+        push_stand(&mut stands, device, position);
     }
+    stands
 }
 
-/// Adds the line of an edge: its instant, the level that the line then has, and where each device on the wire stands.
+fn level_word(edge: Edge) -> &'static str
+    ensures { result.now ≡ level_word edge.low }
+{
+    if edge.low { "low" } else { "high" }
+}
+
+fn level_number(edge: Edge) -> u64
+    ensures { result ≡ level_number edge.low }
+{
+    if edge.low { 0 } else { 1 }
+}
+
+// Adds an edge, from its level and the devices on the wire.
+fn add_stood<'a, S: Sink>(
+    out: &mut Counted<'_, S>,
+    form: Form,
+    at: u64,
+    word: &'a str,
+    level: u64,
+    stands: &'a [Stand<'a>],
+)
+    ensures { Adds out.old out.new (record_text form (codes "edge") (stood_cells at word.now level (stands_value stands.now))) }
+{
+    let cells = cells![
+        both("", "at", Value::One(Piece::Decimal(at))),
+        line(" ", Value::One(Piece::Text(word))),
+        hidden("level", Value::One(Piece::Decimal(level))),
+        both("", "devices", Value::Stands(stands)),
+    ];
+    add_record(out, form, "edge", &cells);
+}
+
+/// Adds the line of an edge, or its object: its instant, the level that the line then has, and where each device on the wire stands.
 pub fn add_edge<S: Sink>(
     out: &mut Counted<'_, S>,
+    form: Form,
     devices: &[Device<16>],
     edge: Edge,
     standing: Standing,
 )
-    ensures { Adds out.old out.new (edge_line devices.now edge (standing_by_code standing.entry)) }
+    requires { length devices.now ≤ 15 }
+    ensures { Adds out.old out.new (edge_text form devices.now edge (standing_by_code standing.entry)) }
 {
-    add_level(out, edge);
-    add_devices(out, devices, standing);
-    add_word(out, "\n");
+    let stands = stands_of(devices, position_of(standing));
+    add_stood(
+        out,
+        form,
+        edge.at,
+        level_word(edge),
+        level_number(edge),
+        &stands,
+    );
 }
 
 /// Writes it by itself. Returns its length.
 pub fn write_edge<S: Sink>(
     out: &mut S,
+    form: Form,
     devices: &[Device<16>],
     edge: Edge,
     standing: Standing,
 ) -> Result<u128, WriteFault>
-    ensures { WrittenText (S.contents out.old) (S.contents out.new) (S.is_stuck out.old) (S.is_stuck out.new) (edge_line devices.now edge (standing_by_code standing.entry)) result }
+    requires { length devices.now ≤ 15 }
+    ensures { WrittenText (S.contents out.old) (S.contents out.new) (S.is_stuck out.old) (S.is_stuck out.new) (edge_text form devices.now edge (standing_by_code standing.entry)) result }
 {
     let mut line = Counted::new(out);
-    add_edge(&mut line, devices, edge, standing);
+    add_edge(&mut line, form, devices, edge, standing);
     let written = line.written();
     // No effect at run time. The proof reads what `out` holds from the sink that comes back.
     let _below = line.into_sink();

@@ -31,7 +31,7 @@ use Rattle.room_step_text.specs.Commands.{LineFault, command_alone, command_of, 
 use Rattle.room_steps.specs.Steps.{Point, Steps, IsEdgeStepBy, IsRoundStep, IsTaken, Skips, device_count, passed_by, passed_from}
 use Rattle.room_steps.specs.Ready.{InsideIf}
 use Rattle.room_steps.specs.declared.stepper.StepError.TheVariants.{Ended}
-use Rattle.room_steps.specs.StepRun.{AreCut, AreDue, IsCommandTaken, IsDue, IsNoStep, IsStep, NamesDevice}
+use Rattle.room_steps.specs.StepRun.{AreCut, AreDue, IsCommandTaken, IsDue, IsNoStep, IsStep, NamesDevice, ended_text}
 
 -- ---- how many devices there are
 
@@ -89,11 +89,11 @@ inside_count end false p q begun i = cc
 
 -- there was no such step, and that was written
 pub ended : (command : StepCommand) (s t : Steps) (old mid new : Option (List ℕ)) (was between is : Bool) (r : Result ℕ WriteFault)
-    → IsTaken (IsStep command s) (IsNoStep command s) s t old mid (Err Ended) → between ≡ was → WrittenText mid new between is (codes "ended\n") r → IsCommandTaken command s t old new was is r
+    → IsTaken (IsStep command s) (IsNoStep command s) s t old mid (Err Ended) → between ≡ was → WrittenText mid new between is (ended_text s.run.form) r → IsCommandTaken command s t old new was is r
 ended command s t old mid new was between is (Ok n) (over, same, none) flag wrote =
-    (codes "ended\n", inr (over, refl, same), subst (λ b. WrittenText old new b is (codes "ended\n") (Ok n)) flag (subst (λ x. WrittenText x new between is (codes "ended\n") (Ok n)) none wrote))
+    (ended_text s.run.form, inr (over, refl, same), subst (λ b. WrittenText old new b is (ended_text s.run.form) (Ok n)) flag (subst (λ x. WrittenText x new between is (ended_text s.run.form) (Ok n)) none wrote))
 ended command s t old mid new was between is (Err fault) (over, same, none) flag wrote =
-    (codes "ended\n", t, inr (over, refl, same), subst (λ b. WrittenText old new b is (codes "ended\n") (Err fault)) flag (subst (λ x. WrittenText x new between is (codes "ended\n") (Err fault)) none wrote))
+    (ended_text s.run.form, t, inr (over, refl, same), subst (λ b. WrittenText old new b is (ended_text s.run.form) (Err fault)) flag (subst (λ x. WrittenText x new between is (ended_text s.run.form) (Err fault)) none wrote))
 
 due_more : (front : List StepCommand) (command : StepCommand) (s mid t : Steps) (text first : List ℕ) → AreDue front s text mid → IsDue command mid first t
     → AreDue (front ++ command ∷ []) s (text ++ first) t

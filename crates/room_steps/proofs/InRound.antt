@@ -1,5 +1,5 @@
 -- A round that is reported edge by edge: its first edge, one after another, and its end.
-use Rattle.std.proofs.Common.{◌≡◌, ℕ, ◌+◌, ◌<◌, Bool, true, false, List, [], ◌∷◌, length, drop, inl, inr, IsSome, IfSome, Option, Some, None, Result, Ok, Err, ap, ◌∙◌, sym, refl, subst, arith}
+use Rattle.std.proofs.Common.{◌≡◌, ℕ, ◌+◌, ◌<◌, ◌≤◌, Bool, true, false, List, [], ◌∷◌, length, drop, inl, inr, IsSome, IfSome, Option, Some, None, Result, Ok, Err, ap, ◌∙◌, sym, refl, subst, arith}
 use Rattle.line_wave.specs.declared.Edge.{Edge}
 use Rattle.line_wave.specs.Line.{IsWave}
 use Rattle.line_rounds.specs.declared.Outcome.{Outcome}
@@ -21,7 +21,8 @@ use Rattle.room_steps.specs.declared.position.Position.{Position}
 use Rattle.room_steps.specs.declared.position.RunInput.{RunInput}
 use Rattle.room_steps.specs.declared.stepper.StepError.{StepError}
 use Rattle.room_steps.specs.declared.stepper.StepError.TheVariants.{Write}
-use Rattle.room_step_text.specs.EdgeText.{edge_line}
+use Rattle.record_core.specs.declared.cell.Form.{Form}
+use Rattle.room_step_text.specs.EdgeText.{edge_text}
 use Rattle.room_steps.specs.Steps.{Point, Run, Steps, IsEdgeStep, IsEdgeStepBy, IsFirstEdge, IsFirstStep, IsNoEdge, IsNoEdgeBy, IsOver, IsRoundStep, IsTaken, in_round, after_events, passed_by, passed_from}
 use Rattle.room_steps.specs.Ready.{AreAlike, Begins, InsideIf, IsAhead, IsInside, IsReady, begun_in, point_of, run_of, written_in, written_of}
 use Rattle.room_steps.proofs.Passing.{ready_event}
@@ -51,17 +52,21 @@ ready_passed end p r = ready_from end p.net p.events p.is_first r
 pub some_inside : (end : ℕ) (p q : Point) → IsReady end p → IsInside end p q → 0 < length q.net.tree
 some_inside end p q r i = subst (λ n. 0 < n) (sym (ap (λ (x : Point). length x.net.tree) i.reported)) (ready_passed end p r).some
 
+-- nor more than fifteen
+pub few_inside : (end : ℕ) (p q : Point) → IsReady end p → IsInside end p q → length q.net.devices ≤ 15
+few_inside end p q r i = subst (λ n. n ≤ 15) (sym (ap (λ (x : Point). length x.net.devices) i.reported)) (ready_passed end p r).few
+
 -- ---- its first edge
 
 pub begun_inside : (end : ℕ) (p q : Point) (e : Edge) → Begins end p e q → IsInside end p q
 begun_inside end p q e b = record { begin = b.begin; heard = e.at + 1; turn = b.turn; reported = b.reported }
 
 -- a text reports an edge
-abbrev pub Reports : NetState → Edge → List ℕ → Type 0
-Reports net e text = OfRound net (λ begin heard low. text ≡ edge_line net.devices e (standing_reported low begin heard))
+abbrev pub Reports : Form → NetState → Edge → List ℕ → Type 0
+Reports form net e text = OfRound net (λ begin heard low. text ≡ edge_text form net.devices e (standing_reported low begin heard))
 
-pub reports_at : (p q : Position) (e : Edge) (text : List ℕ) → p ≡ q → Reports p.net.value e text → Reports q.net.value e text
-reports_at p q e text same line = subst (λ (x : Position). Reports x.net.value e text) same line
+pub reports_at : (form : Form) (p q : Position) (e : Edge) (text : List ℕ) → p ≡ q → Reports form p.net.value e text → Reports form q.net.value e text
+reports_at form p q e text same line = subst (λ (x : Position). Reports form x.net.value e text) same line
 
 -- a round that was begun from a copy of a position, in the run that a stepper shows
 pub begins_from : (input : RunInput) (run : Run) (copy here next : Position) (e : Edge) → run_of input ≡ run → point_of input.events.items copy ≡ point_of input.events.items here
@@ -70,21 +75,22 @@ begins_from input run copy here next e shown same begins =
     subst (λ (r : Run). Begins r.end (point_of r.events here) e (point_of r.events next)) shown
     (subst (λ (p : Point). Begins input.end p e (point_of input.events.items next)) same begins)
 
-pub first_gives : (end : ℕ) (p q : Point) (e : Edge) (text : List ℕ) → Begins end p e q → Reports q.net e text → IsFirstEdge end p text q.net
-first_gives end p q e text b line =
+pub first_gives : (form : Form) (end : ℕ) (p q : Point) (e : Edge) (text : List ℕ) → Begins end p e q → Reports form q.net e text → IsFirstEdge form end p text q.net
+first_gives form end p q e text b line =
     record { begin = b.begin; turn = b.turn; edge = record { edge = e; next = b.first; reported = ap (λ (x : Point). x.net) b.reported; line = line } }
 
 -- ---- what was written of an edge
 
-pub edge_reported : (Gives : List ℕ → Steps → Type 0) (Over : Type 0) (s t : Steps) (net : NetState) (e : Edge) (old new : Option (List ℕ)) (was is : Bool) (n : ℕ)
-    → ((text : List ℕ) → Reports net e text → Gives text t) → (text : List ℕ) × Reports net e text × WrittenText old new was is text (Ok n) → IsTaken Gives Over s t old new (Ok n)
-edge_reported Gives Over s t net e old new was is n gives (text, line, (counted, wrote, flag)) = (text, gives text line, counted, wrote)
+pub edge_reported : (Gives : List ℕ → Steps → Type 0) (Over : Type 0) (s t : Steps) (form : Form) (net : NetState) (e : Edge) (old new : Option (List ℕ)) (was is : Bool) (n : ℕ) → form ≡ s.run.form
+    → ((text : List ℕ) → Reports s.run.form net e text → Gives text t) → (text : List ℕ) × Reports form net e text × WrittenText old new was is text (Ok n) → IsTaken Gives Over s t old new (Ok n)
+edge_reported Gives Over s t form net e old new was is n same gives (text, line, (counted, wrote, flag)) =
+    (text, gives text (subst (λ (f : Form). Reports f net e text) same line), counted, wrote)
 
-pub edge_cut : (Gives : List ℕ → Steps → Type 0) (Over : Type 0) (s t : Steps) (net : NetState) (e : Edge) (old new : Option (List ℕ)) (was is : Bool) (fault : WriteFault) (error : StepError)
-    → error ≡ Write fault.count → ((text : List ℕ) → Reports net e text → Gives text t) → (text : List ℕ) × Reports net e text × WrittenText old new was is text (Err fault)
+pub edge_cut : (Gives : List ℕ → Steps → Type 0) (Over : Type 0) (s t : Steps) (form : Form) (net : NetState) (e : Edge) (old new : Option (List ℕ)) (was is : Bool) (fault : WriteFault) (error : StepError)
+    → form ≡ s.run.form → error ≡ Write fault.count → ((text : List ℕ) → Reports s.run.form net e text → Gives text t) → (text : List ℕ) × Reports form net e text × WrittenText old new was is text (Err fault)
     → IsTaken Gives Over s s old new (Err error)
-edge_cut Gives Over s t net e old new was is fault error same gives (text, line, ((count, short, reported, wrote), flag)) =
-    let here : IsTaken Gives Over s s old new (Err (Write fault.count)) = (refl, text, t, gives text line, count, short, reported, wrote) in
+edge_cut Gives Over s t form net e old new was is fault error formed same gives (text, line, ((count, short, reported, wrote), flag)) =
+    let here : IsTaken Gives Over s s old new (Err (Write fault.count)) = (refl, text, t, gives text (subst (λ (f : Form). Reports f net e text) formed line), count, short, reported, wrote) in
     subst (λ x. IsTaken Gives Over s s old new (Err x)) (sym same) here
 
 -- ---- in a round
@@ -178,13 +184,13 @@ pub inside_underway : (end : ℕ) (p q : Point) → IsInside end p q → IsSome 
 inside_underway end p q i = subst (λ (o : Option ℕ). IsSome o) (sym (ap (λ (x : Point). x.net.heard) i.reported)) refl
 
 pub edge_gives : (s t : Steps) (net after : NetState) (e : Edge) (h : ℕ) (text : List ℕ) → s.begun ≡ Some net → OfRound net (λ begin heard low. IsNextEdge low heard (Some e))
-    → after ≡ record net { heard = Some h } → e.at + 1 ≡ h → Reports after e text → t ≡ in_round s s.last after → IsEdgeStep s text t
+    → after ≡ record net { heard = Some h } → e.at + 1 ≡ h → Reports s.run.form after e text → t ≡ in_round s s.last after → IsEdgeStep s text t
 edge_gives s t net after e h text is next reported at line stands =
     subst (λ x. IsEdgeStepBy s x text t) (sym is)
     (inl (after, record { edge = e; next = next; reported = reported ∙ ap (λ (k : ℕ). record net { heard = Some k }) (sym at); line = line }, stands))
 
 -- the next edge, where it is left
-pub ahead_gives : (s t : Steps) (now : Option Ahead) (q : NetState) (a : Ahead) (e : Edge) (text : List ℕ) → s.begun ≡ Some (written_of now q) → now ≡ Some a → a.edge ≡ Some e → IsAhead q a → Reports q e text
+pub ahead_gives : (s t : Steps) (now : Option Ahead) (q : NetState) (a : Ahead) (e : Edge) (text : List ℕ) → s.begun ≡ Some (written_of now q) → now ≡ Some a → a.edge ≡ Some e → IsAhead q a → Reports s.run.form q e text
     → t ≡ in_round s s.last q → IsEdgeStep s text t
 ahead_gives s t now q a e text is now_is edge h line stands =
     let next = subst (λ (x : Option Edge). OfRound (record q { heard = Some a.written }) (λ begin heard low. IsNextEdge low heard x)) edge h.next in

@@ -1,4 +1,5 @@
 pub mod Passing
+pub mod Told
 pub mod Edges
 pub mod Rounds
 pub mod Taken

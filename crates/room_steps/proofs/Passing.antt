@@ -7,12 +7,13 @@ use Rattle.room_net.specs.Apply.{net_after}
 use Rattle.edid_core.specs.declared.edid.Edid.{Edid}
 use Rattle.room_run.specs.declared.run.Turn.{Turn}
 use Rattle.room_run.specs.declared.run.Turn.TheVariants.{Stop, Apply, Round}
-use Rattle.room_run.specs.Run.{turn_of, first_time, event_text}
+use Rattle.room_run.specs.Run.{turn_of, first_time, event_reported}
+use Rattle.room_run.specs.declared.run.Reporting.{Reporting}
 use Rattle.room_run.specs.Happening.{Happening, OfEvent, text_of}
 use Rattle.room_run.specs.Heard.{Hears}
 use Rattle.room_net.proofs.Kept.{event_keeps}
 use Rattle.room_run.proofs.Advance.{next_schedule}
-use Rattle.room_steps.specs.Steps.{Point, passed_from, passed_by, passed_text_from, text_by}
+use Rattle.room_steps.specs.Steps.{Point, passed_from, passed_by, passed_text_from, text_by, told_of}
 use Rattle.room_steps.specs.Ready.{IsReady, happened_by, happened_from}
 
 come : (end at : ℕ) (s : NetState) (es : List TimedEvent) (e : TimedEvent) (others : List TimedEvent) → es ≡ e ∷ others → turn_of end s (first_time es) ≡ Apply at → turn_of end s (Some e.at) ≡ Apply at
@@ -76,15 +77,15 @@ pub heard_none : {R : Type 0} (hears : R → Happening → R → Type 0) (whole 
 heard_none hears whole old here left none on = on here (subst (λ xs. Hears hears here xs here) (sym none) refl)
 
 -- their lines are what a trace hears of them
-pub passed_heard : (edid : Option Edid) (end : ℕ) (s : NetState) (es : List TimedEvent) → flat_map (text_of edid) (happened_from end s es) ≡ passed_text_from edid end s es
+pub passed_heard : (reporting : Reporting) (end : ℕ) (s : NetState) (es : List TimedEvent) → flat_map (told_of reporting) (happened_from end s es) ≡ passed_text_from reporting end s es
 unfolding happened_from passed_text_from
-passed_heard edid end s [] = refl
-passed_heard edid end s (e ∷ es) = by_turn (turn_of end s (Some e.at)) (λ at. passed_heard edid end (net_after at e.event s) es)
+passed_heard reporting end s [] = refl
+passed_heard reporting end s (e ∷ es) = by_turn (turn_of end s (Some e.at)) (λ at. passed_heard reporting end (net_after at e.event s) es)
   where
-    by_turn : (turn : Turn) → ((at : ℕ) → flat_map (text_of edid) (happened_from end (net_after at e.event s) es) ≡ passed_text_from edid end (net_after at e.event s) es)
-        → flat_map (text_of edid) (happened_by turn (λ at. OfEvent at e s ∷ happened_from end (net_after at e.event s) es))
-        ≡ text_by turn (λ at. event_text edid at e s ++ passed_text_from edid end (net_after at e.event s) es)
-    by_turn (Apply at) on = ap (λ t. event_text edid at e s ++ t) (on at)
+    by_turn : (turn : Turn) → ((at : ℕ) → flat_map (told_of reporting) (happened_from end (net_after at e.event s) es) ≡ passed_text_from reporting end (net_after at e.event s) es)
+        → flat_map (told_of reporting) (happened_by turn (λ at. OfEvent at e s ∷ happened_from end (net_after at e.event s) es))
+        ≡ text_by turn (λ at. event_reported reporting at e s ++ passed_text_from reporting end (net_after at e.event s) es)
+    by_turn (Apply at) on = ap (λ t. event_reported reporting at e s ++ t) (on at)
     by_turn Stop on = refl
     by_turn (Round begin) on = refl
 
@@ -95,6 +96,7 @@ ready_event end at p t first e others split step r =
     let kept = event_keeps at e.event p.net t step in
     record {
       some = rw kept.count r.some;
+      few = rw kept.devices r.few;
       early = r.early;
       order = rw kept.pulses r.order;
       closed = rw kept.close r.closed;

@@ -1,5 +1,5 @@
 -- What events, a round and its first edge make of where a run stands.
-use Rattle.std.proofs.Common.{◌≡◌, ℕ, ◌+◌, ◌<◌, Bool, false, nat_lt, List, [], drop, MatchOption, IfSome, Option, Some, None, ap, ◌∙◌, sym, refl, subst, arith}
+use Rattle.std.proofs.Common.{◌≡◌, ℕ, ◌+◌, ◌<◌, Bool, false, nat_lt, List, [], drop, length, MatchOption, IfSome, Option, Some, None, ap, ◌∙◌, sym, refl, subst, arith}
 use Rattle.std.specs.List.{filter}
 use Rattle.line_wave.specs.declared.Edge.{Edge}
 use Rattle.line_wave.specs.declared.Stretch.{Stretch}
@@ -16,7 +16,7 @@ use Rattle.room_run.specs.declared.run.Turn.TheVariants.{Stop, Apply, Round}
 use Rattle.room_run.specs.Run.{first_time}
 use Rattle.room_run.specs.Happening.{Happening, OfEvent}
 use Rattle.room_run.specs.Heard.{Hears}
-use Rattle.room_net.proofs.Kept.{event_keeps}
+use Rattle.room_net.proofs.Kept.{event_keeps, round_count}
 use Rattle.room_run.proofs.Advance.{round_begins}
 use Rattle.room_steps.specs.declared.position.Position.{Position}
 use Rattle.room_steps.specs.Steps.{Point, IsOver, turn_at, after_events, passed_from}
@@ -66,8 +66,10 @@ pub ready_round : (end begin : ℕ) (p : Point) (o : Outcome) (t : NetState) →
 ready_round end begin p o t r soon next progress =
     let tree : t.tree ≡ p.net.tree = ap (λ (s : NetState). s.tree) next.after_is in
     let pulses : t.pulses ≡ filter (λ (q : Stretch). nat_lt o.rest q.from) p.net.pulses = ap (λ (s : NetState). s.pulses) next.after_is in
+    let devices : length t.devices ≡ length p.net.devices = ap (λ (s : NetState). length s.devices) next.after_is ∙ round_count p.net begin o in
     record {
       some = rw tree r.some;
+      few = omega (arith, devices, r.few);
       early = r.early;
       order = subst (λ (ps : List Stretch). IsWave ps) (sym pulses) (left_in_order o.rest p.net.pulses r.order);
       closed = omega (arith, progress.closed, r.early, soon);

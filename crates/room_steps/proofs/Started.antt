@@ -2,6 +2,7 @@
 use Rattle.std.proofs.Common.{◌≡◌, ℕ, ◌<◌, ◌≤◌, Bool, true, List, drop, length, Option, Some, None, ap, ◌∙◌, sym, subst, arith}
 use Rattle.line_wave.specs.Bounds.{latest_instant}
 use Rattle.edid_tree.specs.Node.{Node}
+use Rattle.room_net.proofs.Kept.{started_count}
 use Rattle.room_script.specs.Script.{Course, IsScript}
 use Rattle.room_net.specs.State.{NetState, first_net}
 use Rattle.edid_core.specs.declared.edid.Edid.{Edid}
@@ -32,8 +33,8 @@ abbrev pub stepper_at : Run → Point → Steps
 stepper_at run p = record { run = run; last = p; begun = None }
 
 -- at its start a run is ready
-pub ready_start : (tree : List Node) (course : Course) → 0 < length tree → IsScript (length tree) course
+pub ready_start : (tree : List Node) (course : Course) → 0 < length tree → length tree ≤ 15 → IsScript (length tree) course
     → IsReady course.end (record { net = first_net tree course.pulses; events = course.events; is_first = true })
-ready_start tree course some script =
+ready_start tree course some few script =
     let none : 0 ≤ latest_instant = omega arith in
-    record { some = some; early = script.limit; order = script.timely.order; closed = none; schedule = (0, script.schedule) }
+    record { some = some; few = omega (arith, few, started_count tree course.pulses); early = script.limit; order = script.timely.order; closed = none; schedule = (0, script.schedule) }

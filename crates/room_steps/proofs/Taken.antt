@@ -4,7 +4,8 @@ use Rattle.line_rounds.specs.declared.Outcome.{Outcome}
 use Rattle.text_core.specs.declared.sink.WriteFault.{WriteFault}
 use Rattle.text_core.specs.Cut.{WrittenText}
 use Rattle.device_core.specs.State.{State}
-use Rattle.room_trace.specs.StateText.{state_line}
+use Rattle.record_core.specs.declared.cell.Form.{Form}
+use Rattle.room_trace.specs.Records.{state_text}
 use Rattle.room_step_text.specs.declared.break_at.Break.{Break}
 use Rattle.room_step_text.specs.Stops.{stops}
 use Rattle.room_steps.specs.declared.stepper.StepError.{StepError}
@@ -37,14 +38,15 @@ taken_until s t at rounds before after o old new r skips step stop taken =
     (λ text u given. record { rounds = rounds; before = before; after = after; outcome = o; skips = skips; step = step; stop = stop; reported = given.0; stands = given.1 }) (λ none. absurd none) taken
 
 -- a state line was written, or cut off
-pub shown_reported : (s : Steps) (device : ℕ) (d : State) (old new : Option (List ℕ)) (was is : Bool) (n : ℕ) → slice_get (shown_net s).devices device ≡ Some d
-    → WrittenText old new was is (state_line d) (Ok n) → IsTaken (IsShown s device) ⊥ s s old new (Ok n)
-shown_reported s device d old new was is n found (counted, wrote, flag) = (state_line d, (d, found, refl, refl), counted, wrote)
+pub shown_reported : (s : Steps) (device : ℕ) (form : Form) (d : State) (old new : Option (List ℕ)) (was is : Bool) (n : ℕ) → form ≡ s.run.form → slice_get (shown_net s).devices device ≡ Some d
+    → WrittenText old new was is (state_text form d) (Ok n) → IsTaken (IsShown s device) ⊥ s s old new (Ok n)
+shown_reported s device form d old new was is n formed found (counted, wrote, flag) =
+    (state_text form d, (d, found, ap (λ (f : Form). state_text f d) formed, refl), counted, wrote)
 
-pub shown_cut : (s : Steps) (device : ℕ) (d : State) (old new : Option (List ℕ)) (was is : Bool) (fault : WriteFault) (error : StepError) → slice_get (shown_net s).devices device ≡ Some d
-    → error ≡ Write fault.count → WrittenText old new was is (state_line d) (Err fault) → IsTaken (IsShown s device) ⊥ s s old new (Err error)
-shown_cut s device d old new was is fault error found same ((count, short, reported, wrote), flag) =
-    let here : IsTaken (IsShown s device) ⊥ s s old new (Err (Write fault.count)) = (refl, state_line d, s, (d, found, refl, refl), count, short, reported, wrote) in
+pub shown_cut : (s : Steps) (device : ℕ) (form : Form) (d : State) (old new : Option (List ℕ)) (was is : Bool) (fault : WriteFault) (error : StepError) → form ≡ s.run.form → slice_get (shown_net s).devices device ≡ Some d
+    → error ≡ Write fault.count → WrittenText old new was is (state_text form d) (Err fault) → IsTaken (IsShown s device) ⊥ s s old new (Err error)
+shown_cut s device form d old new was is fault error formed found same ((count, short, reported, wrote), flag) =
+    let here : IsTaken (IsShown s device) ⊥ s s old new (Err (Write fault.count)) = (refl, state_text form d, s, (d, found, ap (λ (f : Form). state_text f d) formed, refl), count, short, reported, wrote) in
     subst (λ x. IsTaken (IsShown s device) ⊥ s s old new (Err x)) (sym same) here
 
 -- rounds after others, none of which stops a search

@@ -1,22 +1,23 @@
 -- What the steps of a text write of rounds stands in the run's trace.
-use Rattle.std.proofs.Common.{◌≡◌, ℕ, zero, suc, ◌+◌, ◌-◌, ◌⊎◌, inl, inr, List, [], ◌∷◌, ◌++◌, codes, Option, Some, None, ap, ap₂, ◌∙◌, sym, refl, subst, arith, append_assoc, append-nil}
+use Rattle.std.proofs.Common.{◌≡◌, ℕ, zero, suc, ◌+◌, ◌-◌, ◌⊎◌, inl, inr, false, List, [], ◌∷◌, ◌++◌, codes, Option, Some, None, ap, ap₂, ◌∙◌, sym, refl, subst, arith, append_assoc, append-nil}
 use Rattle.std.specs.List.{flat_map, repeat}
 use Rattle.std.proofs.lemmas.List.{append_cancel_left}
 use Rattle.line_rounds.specs.declared.Outcome.{Outcome}
-use Rattle.room_net.specs.State.{NetState}
+use Rattle.room_net.specs.State.{NetState, first_net}
 use Rattle.room_run.specs.declared.run.Totals.{Totals}
 use Rattle.room_run.specs.declared.run.Turn.TheVariants.{Stop, Round as RoundTurn}
-use Rattle.room_run.specs.Emulate.{IsTraceOf}
-use Rattle.room_run.specs.Run.{IsTrace, start}
-use Rattle.room_run.proofs.Accepted.{one_trace_of}
-use Rattle.room_run.proofs.Turns.{one_trace}
+use Rattle.record_core.specs.declared.cell.Form.{Form}
+use Rattle.record_core.specs.declared.cell.Form.TheVariants.{Text, Json}
+use Rattle.room_run.specs.Run.{IsRunText, start}
+use Rattle.room_run.proofs.Accepted.{one_text_of_objects, one_trace_of}
+use Rattle.room_run.proofs.Turns.{one_run_text}
 use Rattle.room_step_text.specs.declared.break_at.Break.{Break}
 use Rattle.room_step_text.specs.declared.commands.StepCommand.{StepCommand}
 use Rattle.room_step_text.specs.declared.commands.StepCommand.TheVariants.{Edge, Round, Until, Show}
-use Rattle.room_steps.specs.Steps.{IsEdgeStepBy, IsOver, IsRoundStep, Point, Run, Skips, Steps, step_text}
-use Rattle.room_steps.specs.StepRun.{AreDue, AreStepsOf, IsDue}
+use Rattle.room_steps.specs.Steps.{IsEdgeStepBy, IsOver, IsRoundStep, Point, Run, Skips, Steps, reporting_by, reporting_of, step_text}
+use Rattle.room_steps.specs.StepRun.{AreDue, AreSteps, AreStepsOf, IsDue, ended_text}
 use Rattle.room_steps.specs.Trace.{Rounds, first_point}
-use Rattle.room_steps.specs.TraceSteps.{AreFirstRounds, StandInOrder, StepsAreTheTrace, all_round_texts, round_texts}
+use Rattle.room_steps.specs.TraceSteps.{AreFirstRounds, IsToldOf, StandInOrder, StepsAreTheTrace, all_round_texts, round_texts}
 use Rattle.room_steps.proofs.TraceRounds.{rounds_are_the_trace}
 
 -- ---- where a stepper stands: after so many rounds of the run, whose text this is
@@ -135,13 +136,13 @@ placed passed more (text ∷ here) texts h = (
 )
 
 -- what the trace has after the rounds that were passed
-left_of_trace : (run : Run) (net : NetState) (t : Steps) (front piece rest whole : List ℕ) (totals : Totals) → IsTrace run.edid run.end (start net run.events) whole totals
+left_of_trace : (run : Run) (net : NetState) (t : Steps) (front piece rest whole : List ℕ) (totals : Totals) → IsRunText (reporting_of run) run.end (start net run.events) whole totals
     → Stands run net t (front ++ piece) → whole ≡ front ++ rest → (more : List ℕ) × (rest ≡ piece ++ more) × (whole ≡ (front ++ piece) ++ more)
 left_of_trace run net t front piece rest whole totals trace stands e =
     let next = rounds_are_the_trace.front run net stands.rounds (front ++ piece) t.last stands.taken whole totals trace in
     (next.0, append_cancel_left front rest (piece ++ next.0) (sym e ∙ next.1 ∙ append_assoc front piece next.0), next.1)
 
-stand_in_order : (run : Run) (net : NetState) (whole : List ℕ) (totals : Totals) → IsTrace run.edid run.end (start net run.events) whole totals
+stand_in_order : (run : Run) (net : NetState) (whole : List ℕ) (totals : Totals) → IsRunText (reporting_of run) run.end (start net run.events) whole totals
     → (commands : List StepCommand) (s t : Steps) (front rest text : List ℕ) → Stands run net s front → whole ≡ front ++ rest → (due : AreDue commands s text t)
     → StandInOrder (all_round_texts commands s text t due) rest
 stand_in_order run net whole totals trace [] s t front rest text stands e due = tt
@@ -154,18 +155,18 @@ stand_in_order run net whole totals trace (command ∷ commands) s t front rest 
 
 -- ---- steps `round` alone
 
-abbrev ended : List ℕ
-ended = codes "ended\n"
+abbrev ended : Run → List ℕ
+ended run = ended_text run.form
 
 over_no_round : (end : ℕ) (p q : Point) (o : Outcome) → IsOver end p → IsRoundStep end p o q → ⊥
 over_no_round end p q o over step = let e : Stop ≡ RoundTurn step.begin = sym over ∙ step.turn in cc
 
 -- where the run is over each writes `ended`
-all_ended : (count : ℕ) (s t : Steps) (text : List ℕ) → IsOver s.run.end s.last → AreDue (repeat count (Round ∷ [])) s text t → text ≡ repeat count ended
+all_ended : (count : ℕ) (s t : Steps) (text : List ℕ) → IsOver s.run.end s.last → AreDue (repeat count (Round ∷ [])) s text t → text ≡ repeat count (ended s.run)
 all_ended zero s t text over due = due.0
 all_ended (suc count) s t text over (mid, first, later, inl (o, q, step, said, there), due, is) = absurd (over_no_round s.run.end s.last q o over step)
 all_ended (suc count) s t text over (mid, first, later, inr (none, said, same), due, is) =
-    is ∙ ap₂ (λ x y. x ++ y) said (all_ended count mid t later (subst (λ (x : Steps). IsOver x.run.end x.last) (sym same) over) due)
+    is ∙ ap₂ (λ x y. x ++ y) said (all_ended count mid t later (subst (λ (x : Steps). IsOver x.run.end x.last) (sym same) over) due ∙ ap (λ (x : Steps). repeat count (ended x.run)) same)
 
 record Alone (run : Run) (net : NetState) (count : ℕ) (front text : List ℕ) : Type 0 where
   rounds : ℕ
@@ -174,7 +175,7 @@ record Alone (run : Run) (net : NetState) (count : ℕ) (front text : List ℕ) 
   piece : List ℕ
   counts : rounds + left ≡ count
   taken : Rounds run rounds (first_point run net) (front ++ piece) last
-  reported : text ≡ piece ++ repeat left ended
+  reported : text ≡ piece ++ repeat left (ended run)
   all : (left ≡ 0) ⊎ IsOver run.end last
 
 alone : (run : Run) (net : NetState) (count : ℕ) (s t : Steps) (front text : List ℕ) → (stands : Stands run net s front) → AreDue (repeat count (Round ∷ [])) s text t
@@ -200,7 +201,7 @@ alone run net (suc count) s t front text stands (mid, first, later, inl (o, q, s
       piece = first ++ rest.piece;
       counts = rest.counts ∙ ap (λ n. n + count) counted ∙ one_more stands.rounds count;
       taken = subst (λ x. Rounds run rest.rounds (first_point run net) x rest.last) (append_assoc front first rest.piece) rest.taken;
-      reported = is ∙ ap (λ x. first ++ x) rest.reported ∙ sym (append_assoc first rest.piece (repeat rest.left ended));
+      reported = is ∙ ap (λ x. first ++ x) rest.reported ∙ sym (append_assoc first rest.piece (repeat rest.left (ended run)));
       all = rest.all;
     }
   where
@@ -213,7 +214,7 @@ alone run net (suc count) s t front text stands (mid, first, later, inr (over, s
   piece = [];
   counts = refl;
   taken = subst (λ x. Rounds run stands.rounds (first_point run net) x s.last) (sym (append-nil front)) stands.taken;
-  reported = all_ended (suc count) s t text over (mid, first, later, inr (over, said, same), due, is);
+  reported = all_ended (suc count) s t text over (mid, first, later, inr (over, said, same), due, is) ∙ ap (λ (r : Run). repeat (suc count) (ended r)) stands.same;
   all = inr (subst (λ (r : Run). IsOver r.end s.last) stands.same over);
 }
 
@@ -222,7 +223,7 @@ alone run net (suc count) s t front text stands (mid, first, later, inr (over, s
 begins : (s : Steps) (run : Run) (net : NetState) → s.run ≡ run → s.last ≡ first_point run net → Stands run net s []
 begins s run net same last = record { same = same; rounds = 0; taken = (refl, last) }
 
-first_rounds : (run : Run) (net : NetState) (count : ℕ) (text whole : List ℕ) (totals : Totals) → IsTrace run.edid run.end (start net run.events) whole totals
+first_rounds : (run : Run) (net : NetState) (count : ℕ) (text whole : List ℕ) (totals : Totals) → IsRunText (reporting_of run) run.end (start net run.events) whole totals
     → Alone run net count [] text → AreFirstRounds run net count text whole totals
 first_rounds run net count text whole totals trace a =
     let front = rounds_are_the_trace.front run net a.rounds a.piece a.last a.taken whole totals trace in
@@ -236,28 +237,32 @@ first_rounds run net count text whole totals trace a =
       all = elim a.all [
         | inl none ↦ inl (omega (arith, a.counts, none))
         | inr over ↦ (let w = rounds_are_the_trace.whole run net a.rounds a.piece a.last a.taken over in
-            inr (sym w.2 ∙ ap (λ (x : Totals). x.rounds) (one_trace run.edid run.end (start net run.events) _ whole w.0 totals w.1 trace).1))
+            inr (sym w.2 ∙ ap (λ (x : Totals). x.rounds) (one_run_text (reporting_of run) run.end (start net run.events) _ whole w.0 totals w.1 trace).1))
       ];
-      reported = a.reported ∙ ap (λ n. a.piece ++ repeat n ended) left;
+      reported = a.reported ∙ ap (λ n. a.piece ++ repeat n (ended run)) left;
       more = front.0;
       begins = front.1;
     }
 
--- the trace of the run that a stepper begins
-trace_of : (topology script steps text whole : List ℕ) (totals : Totals) → IsTraceOf topology script whole totals → (p : AreStepsOf topology script steps text)
-    → IsTrace p.first.run.edid p.first.run.end (start p.first.last.net p.first.run.events) whole totals
-trace_of topology script steps text whole totals trace p =
-    let s = p.spelled in
-    subst (λ (x : Steps). IsTrace x.run.edid x.run.end (start x.last.net x.run.events) whole totals) (sym s.starts)
-    (one_trace_of topology script whole totals s.plan s.course s.edid s.accepted.plan_is s.accepted.course_is s.root trace)
+-- the trace of the run that a stepper begins, or its objects
+told_as : (form : Form) (topology script steps whole : List ℕ) (totals : Totals) (commands : List StepCommand) (first : Steps) → IsToldOf form topology script whole totals
+    → (s : AreSteps form topology script steps commands first)
+    → IsRunText (reporting_by form s.edid) s.course.end (start (first_net s.plan.tree s.course.pulses) s.course.events) whole totals
+told_as Text topology script steps whole totals commands first trace s = one_trace_of topology script whole totals s.plan s.course s.edid s.accepted.plan_is s.accepted.course_is s.root trace
+told_as Json topology script steps whole totals commands first objects s = one_text_of_objects false topology script whole totals s.plan s.course s.edid s.accepted.plan_is s.accepted.course_is s.root objects
 
-stands_first : (topology script steps text : List ℕ) (p : AreStepsOf topology script steps text) → Stands p.first.run p.first.last.net p.first []
-stands_first topology script steps text p =
+trace_of : (form : Form) (topology script steps text whole : List ℕ) (totals : Totals) → IsToldOf form topology script whole totals → (p : AreStepsOf form topology script steps text)
+    → IsRunText (reporting_of p.first.run) p.first.run.end (start p.first.last.net p.first.run.events) whole totals
+trace_of form topology script steps text whole totals told p =
+    subst (λ (x : Steps). IsRunText (reporting_of x.run) x.run.end (start x.last.net x.run.events) whole totals) (sym p.spelled.starts) (told_as form topology script steps whole totals p.commands p.first told p.spelled)
+
+stands_first : (form : Form) (topology script steps text : List ℕ) (p : AreStepsOf form topology script steps text) → Stands p.first.run p.first.last.net p.first []
+stands_first form topology script steps text p =
     begins p.first p.first.run p.first.last.net refl (subst (λ (x : Steps). x.last ≡ first_point x.run x.last.net) (sym p.spelled.starts) refl)
 
-none_first : (topology script steps text : List ℕ) (p : AreStepsOf topology script steps text) → (stands_first topology script steps text p).rounds ≡ 0
+none_first : (form : Form) (topology script steps text : List ℕ) (p : AreStepsOf form topology script steps text) → (stands_first form topology script steps text p).rounds ≡ 0
 unfolding stands_first begins
-none_first topology script steps text p = refl
+none_first form topology script steps text p = refl
 
 alone_first : (run : Run) (net : NetState) (count : ℕ) (s t : Steps) (text : List ℕ) → (stands : Stands run net s []) → stands.rounds ≡ 0 → AreDue (repeat count (Round ∷ [])) s text t
     → Alone run net count [] text
@@ -267,10 +272,10 @@ alone_first run net count s t text stands none due =
 
 pub steps_are_the_trace : StepsAreTheTrace
 steps_are_the_trace = record {
-  in_order = λ topology script steps text whole totals trace p.
-      stand_in_order p.first.run p.first.last.net whole totals (trace_of topology script steps text whole totals trace p) p.commands p.first p.last [] whole text
-      (stands_first topology script steps text p) refl p.due;
-  first_rounds = λ topology script steps text whole totals trace p count only.
-      first_rounds p.first.run p.first.last.net count text whole totals (trace_of topology script steps text whole totals trace p)
-      (alone_first p.first.run p.first.last.net count p.first p.last text (stands_first topology script steps text p) (none_first topology script steps text p) (subst (λ cs. AreDue cs p.first text p.last) only p.due));
+  in_order = λ form topology script steps text whole totals trace p.
+      stand_in_order p.first.run p.first.last.net whole totals (trace_of form topology script steps text whole totals trace p) p.commands p.first p.last [] whole text
+      (stands_first form topology script steps text p) refl p.due;
+  first_rounds = λ form topology script steps text whole totals trace p count only.
+      first_rounds p.first.run p.first.last.net count text whole totals (trace_of form topology script steps text whole totals trace p)
+      (alone_first p.first.run p.first.last.net count p.first p.last text (stands_first form topology script steps text p) (none_first form topology script steps text p) (subst (λ cs. AreDue cs p.first text p.last) only p.due));
 }

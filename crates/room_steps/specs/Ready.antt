@@ -33,11 +33,12 @@ pub record AreAlike (p q : Position) : Type 0 where
 
 -- what a run in the code is made of
 abbrev pub run_of : RunInput → Run
-run_of input = record { edid = input.edid.value; events = input.events.items; end = input.end }
+run_of input = record { form = input.form; edid = input.edid.value; events = input.events.items; end = input.end }
 
--- times stay below the limits, and the events that are left come in their order, before the end
+-- times stay below the limits, a room has at most fifteen devices, and the events that are left come in their order, before the end
 pub record IsReady (end : ℕ) (p : Point) : Type 0 where
   pub some : 0 < length p.net.tree
+  pub few : length p.net.devices ≤ 15
   pub early : end ≤ latest_event
   pub order : IsWave p.net.pulses
   pub closed : p.net.close ≤ latest_instant

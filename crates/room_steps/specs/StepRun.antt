@@ -14,6 +14,10 @@ use Rattle.room_step_text.specs.declared.commands.StepCommand.TheVariants.{Edge,
 use Rattle.room_steps.specs.declared.step_run.StepRunError.{StepRunError}
 use Rattle.room_steps.specs.declared.step_run.StepRunError.TheVariants.{Run, Steps as StepsLine}
 use Rattle.room_step_text.specs.Commands.{commands_of}
+use Rattle.record_core.specs.Cells.{line_only}
+use Rattle.record_core.specs.Records.{record_text}
+use Rattle.record_core.specs.Values.{text as text_cell}
+use Rattle.record_core.specs.declared.cell.Form.{Form}
 use Rattle.room_steps.specs.Steps.{Steps, IsEdgeStep, IsNever, IsNoEdge, IsOver, IsRound, IsShown, IsUntil, begun_at}
 
 -- ---- one command
@@ -32,10 +36,14 @@ IsNoStep Round s = IsOver s.run.end s.last
 IsNoStep (Until at) s = IsNever s at
 IsNoStep (Show device) s = ⊥
 
+-- that, as a line or as its object
+abbrev pub ended_text : Form → List ℕ
+ended_text form = record_text form (codes "ended") (line_only [] (text_cell (codes "ended")) ∷ [])
+
 -- The text that is due of a command, and where the stepper then stands: those of the step, or `ended` where there is no such
 -- step, and the stepper stands where it stood.
 abbrev pub IsDue : StepCommand → Steps → List ℕ → Steps → Type 0
-IsDue command s text t = IsStep command s text t ⊎ (IsNoStep command s × (text ≡ codes "ended\n") × (t ≡ s))
+IsDue command s text t = IsStep command s text t ⊎ (IsNoStep command s × (text ≡ ended_text s.run.form) × (t ≡ s))
 
 -- what a command has written of its text
 abbrev pub IsCommandTaken : StepCommand → Steps → Steps → Option (List ℕ) → Option (List ℕ) → Bool → Bool → Result ℕ WriteFault → Type 0
@@ -69,22 +77,22 @@ pub record AreCut (commands : List StepCommand) (s : Steps) (old new : Option (L
 
 -- ---- the steps of texts
 
--- the texts spell these commands, to be taken from the start of this run
-pub record AreSteps (topology script steps : List ℕ) (commands : List StepCommand) (s : Steps) : Type 0 where
+-- the texts spell these commands, to be taken from the start of this run, whose lines have this form
+pub record AreSteps (form : Form) (topology script steps : List ℕ) (commands : List StepCommand) (s : Steps) : Type 0 where
   pub plan : Plan
   pub course : Course
   pub edid : Option EdidValue
   pub accepted : IsAccepted topology script plan course
   pub root : IsRoot plan.edid edid
   pub commands_are : commands_of plan.tree steps ≡ Ok commands
-  pub starts : s ≡ begun_at edid course (first_net plan.tree course.pulses)
+  pub starts : s ≡ begun_at form edid course (first_net plan.tree course.pulses)
 
 -- the whole text that is due
-pub record AreStepsOf (topology script steps text : List ℕ) : Type 0 where
+pub record AreStepsOf (form : Form) (topology script steps text : List ℕ) : Type 0 where
   pub commands : List StepCommand
   pub first : Steps
   pub last : Steps
-  pub spelled : AreSteps topology script steps commands first
+  pub spelled : AreSteps form topology script steps commands first
   pub due : AreDue commands first text last
 
 -- when each refusal comes: those of the run, and then the first line of the steps at fault, with its word
@@ -100,15 +108,15 @@ is_write (Err (StepsLine line word)) = false
 is_write (Err (Run error)) = is_run_write (Err error)
 
 -- after a failed write the front of the text due was written, as much as is told
-abbrev pub AreStepsCut : List ℕ → List ℕ → List ℕ → Option (List ℕ) → Option (List ℕ) → ℕ → Type 0
-AreStepsCut topology script steps old new count =
-    (commands : List StepCommand) × (s : Steps) × AreSteps topology script steps commands s × AreCut commands s old new (record { count = count })
+abbrev pub AreStepsCut : Form → List ℕ → List ℕ → List ℕ → Option (List ℕ) → Option (List ℕ) → ℕ → Type 0
+AreStepsCut form topology script steps old new count =
+    (commands : List StepCommand) × (s : Steps) × AreSteps form topology script steps commands s × AreCut commands s old new (record { count = count })
 
 -- what a refusal has written
-abbrev pub IsCutBy : List ℕ → List ℕ → List ℕ → Option (List ℕ) → Option (List ℕ) → StepRunError → Type 0
-IsCutBy topology script steps old new (StepsLine line word) = new ≡ old
-IsCutBy topology script steps old new (Run (faults.Write count)) = AreStepsCut topology script steps old new count
-IsCutBy topology script steps old new (Run (faults.Topology line cause word)) = new ≡ old
-IsCutBy topology script steps old new (Run (faults.Script line cause word)) = new ≡ old
-IsCutBy topology script steps old new (Run (faults.Edid cause)) = new ≡ old
-IsCutBy topology script steps old new (Run faults.Memory) = new ≡ old
+abbrev pub IsCutBy : Form → List ℕ → List ℕ → List ℕ → Option (List ℕ) → Option (List ℕ) → StepRunError → Type 0
+IsCutBy form topology script steps old new (StepsLine line word) = new ≡ old
+IsCutBy form topology script steps old new (Run (faults.Write count)) = AreStepsCut form topology script steps old new count
+IsCutBy form topology script steps old new (Run (faults.Topology line cause word)) = new ≡ old
+IsCutBy form topology script steps old new (Run (faults.Script line cause word)) = new ≡ old
+IsCutBy form topology script steps old new (Run (faults.Edid cause)) = new ≡ old
+IsCutBy form topology script steps old new (Run faults.Memory) = new ≡ old

@@ -13,17 +13,21 @@ use Rattle.room_net.specs.Underway.{OfRound, standing_reported}
 use Rattle.room_script.specs.declared.script.TimedEvent.{TimedEvent}
 use Rattle.room_script.specs.Script.{Course}
 use Rattle.edid_core.specs.declared.edid.Edid.{Edid}
+use Rattle.record_core.specs.declared.cell.Form.{Form}
+use Rattle.record_core.specs.declared.cell.Form.TheVariants.{Text, Json}
 use Rattle.text_core.specs.Cut.{reported_count}
 use Rattle.room_run.specs.declared.run.Turn.{Turn}
 use Rattle.room_run.specs.declared.run.Turn.TheVariants.{Stop, Apply, Round}
-use Rattle.room_run.specs.Run.{turn_of, first_time, event_text}
-use Rattle.room_trace.specs.PortText.{port_lines}
-use Rattle.room_trace.specs.TraceText.{round_line}
-use Rattle.room_trace.specs.StateText.{state_line}
+use Rattle.room_run.specs.declared.run.Reporting.{Reporting}
+use Rattle.room_run.specs.declared.run.Reporting.TheVariants.{Trace, Objects}
+use Rattle.room_run.specs.Happening.{Happening, OfEvent, OfRound as RoundOf}
+use Rattle.room_run.specs.Run.{turn_of, first_time, event_reported, round_reported}
+use Rattle.room_trace.specs.PortText.{port_texts}
+use Rattle.room_trace.specs.Records.{state_text}
 use Rattle.room_step_text.specs.declared.break_at.Break.{Break}
 use Rattle.room_steps.specs.declared.stepper.StepError.{StepError}
 use Rattle.room_steps.specs.declared.stepper.StepError.TheVariants.{Ended, Write}
-use Rattle.room_step_text.specs.EdgeText.{edge_line}
+use Rattle.room_step_text.specs.EdgeText.{edge_text}
 use Rattle.room_step_text.specs.Stops.{stops}
 
 -- ---- where a run stands
@@ -38,11 +42,25 @@ pub record Point : Type 0 where
 abbrev pub turn_at : ℕ → Point → Turn
 turn_at end p = turn_of end p.net (first_time p.events)
 
--- what a run is made of: the television's EDID, its events, and its end
+-- what a run is made of: the form of its lines, the television's EDID, its events, and its end
 pub record Run : Type 0 where
+  pub form : Form
   pub edid : Option Edid
   pub events : List TimedEvent
   pub end : ℕ
+
+-- what a run reports: its trace, or the objects of it
+abbrev pub reporting_by : Form → Option Edid → Reporting
+reporting_by Text edid = Trace edid
+reporting_by Json edid = Objects edid None
+
+abbrev pub reporting_of : Run → Reporting
+reporting_of run = reporting_by run.form run.edid
+
+-- and what of a turn
+abbrev pub told_of : Reporting → Happening → List ℕ
+told_of reporting (OfEvent at e before) = event_reported reporting at e before
+told_of reporting (RoundOf begin before o) = round_reported reporting before.devices o
 
 -- ---- the events before a round
 
@@ -66,23 +84,23 @@ text_by Stop reported = []
 text_by (Round begin) reported = []
 
 -- their lines
-unfoldable pub passed_text_from : Option Edid → ℕ → NetState → List TimedEvent → List ℕ
-passed_text_from edid end s [] = []
-passed_text_from edid end s (e ∷ events) =
-    text_by (turn_of end s (Some e.at)) (λ at. event_text edid at e s ++ passed_text_from edid end (net_after at e.event s) events)
+unfoldable pub passed_text_from : Reporting → ℕ → NetState → List TimedEvent → List ℕ
+passed_text_from reporting end s [] = []
+passed_text_from reporting end s (e ∷ events) =
+    text_by (turn_of end s (Some e.at)) (λ at. event_reported reporting at e s ++ passed_text_from reporting end (net_after at e.event s) events)
 
-abbrev pub passed_text : Option Edid → ℕ → Point → List ℕ
-passed_text edid end p = passed_text_from edid end p.net p.events
+abbrev pub passed_text : Reporting → ℕ → Point → List ℕ
+passed_text reporting end p = passed_text_from reporting end p.net p.events
 
 -- ---- a round
 
 -- before the first round of all, the lines of the ports
-abbrev pub start_by : Bool → Option Edid → NetState → List ℕ
-start_by true edid s = port_lines 0 edid (λ device. false) s.tree
-start_by false edid s = []
+abbrev pub start_by : Bool → Form → Option Edid → NetState → List ℕ
+start_by true form edid s = port_texts form 0 edid (λ device. false) s.tree
+start_by false form edid s = []
 
-abbrev pub start_text : Option Edid → Point → List ℕ
-start_text edid p = start_by p.is_first edid p.net
+abbrev pub start_text : Run → Point → List ℕ
+start_text run p = start_by p.is_first run.form run.edid p.net
 
 -- The next round with the events before it gives this outcome, and leads from one point to another.
 pub record IsRoundStep (end : ℕ) (p : Point) (o : Outcome) (q : Point) : Type 0 where
@@ -95,7 +113,7 @@ pub record IsRoundStep (end : ℕ) (p : Point) (o : Outcome) (q : Point) : Type 
 
 -- what the trace has of it, after the line of the round before
 abbrev pub step_text : Run → Point → Outcome → Point → List ℕ
-step_text run p o q = (start_text run.edid p ++ passed_text run.edid run.end p) ++ round_line q.net.devices o
+step_text run p o q = (start_text run p ++ passed_text (reporting_of run) run.end p) ++ round_reported (reporting_of run) q.net.devices o
 
 -- no round comes any more
 abbrev pub IsOver : ℕ → Point → Type 0
@@ -141,9 +159,9 @@ is_write (Err Ended) = false
 is_write (Err (Write reported)) = true
 
 -- a stepper at the start of a run
-abbrev pub begun_at : Option Edid → Course → NetState → Steps
-begun_at edid course s = record {
-  run = record { edid = edid; events = course.events; end = course.end };
+abbrev pub begun_at : Form → Option Edid → Course → NetState → Steps
+begun_at form edid course s = record {
+  run = record { form = form; edid = edid; events = course.events; end = course.end };
   last = record { net = s; events = course.events; is_first = true };
   begun = None;
 }
@@ -185,27 +203,27 @@ IsNever s at = (rounds : ℕ) × (q : Point) × Skips s.run.end at rounds s.last
 
 -- The next edge of the line of a round, told through it; and its text, by where each receiver then stands. Said of each
 -- line that the round can have, of which there is one.
-pub record IsEdge (net : NetState) (text : List ℕ) (after : NetState) : Type 0 where
+pub record IsEdge (form : Form) (net : NetState) (text : List ℕ) (after : NetState) : Type 0 where
   pub edge : Edge
   pub next : OfRound net (λ begin heard low. IsNextEdge low heard (Some edge))
   pub reported : after ≡ record net { heard = Some (edge.at + 1) }
-  pub line : OfRound after (λ begin heard low. text ≡ edge_line after.devices edge (standing_reported low begin heard))
+  pub line : OfRound after (λ begin heard low. text ≡ edge_text form after.devices edge (standing_reported low begin heard))
 
 -- the line of a round has no edge left
 abbrev pub IsSilent : NetState → Type 0
 IsSilent net = OfRound net (λ begin heard low. IsNextEdge low heard None)
 
 -- the first edge of the next round
-pub record IsFirstEdge (end : ℕ) (p : Point) (text : List ℕ) (after : NetState) : Type 0 where
+pub record IsFirstEdge (form : Form) (end : ℕ) (p : Point) (text : List ℕ) (after : NetState) : Type 0 where
   pub begin : ℕ
   pub turn : turn_at end (after_events end p) ≡ Round begin
-  pub edge : IsEdge (record (after_events end p).net { heard = Some begin }) text after
+  pub edge : IsEdge form (record (after_events end p).net { heard = Some begin }) text after
 
 abbrev pub in_round : Steps → Point → NetState → Steps
 in_round s p net = record s { last = p; begun = Some net }
 
 abbrev pub IsFirstStep : Steps → Point → List ℕ → Steps → Type 0
-IsFirstStep s p text t = (after : NetState) × IsFirstEdge s.run.end p text after × (t ≡ in_round s p after)
+IsFirstStep s p text t = (after : NetState) × IsFirstEdge s.run.form s.run.end p text after × (t ≡ in_round s p after)
 
 -- where the round that was begun has no edge left, the first edge of the round after it
 pub record IsEdgeAfter (s : Steps) (net : NetState) (text : List ℕ) (t : Steps) : Type 0 where
@@ -217,7 +235,7 @@ pub record IsEdgeAfter (s : Steps) (net : NetState) (text : List ℕ) (t : Steps
 
 abbrev pub IsEdgeStepBy : Steps → Option NetState → List ℕ → Steps → Type 0
 IsEdgeStepBy s None text t = IsFirstStep s s.last text t
-IsEdgeStepBy s (Some net) text t = ((after : NetState) × IsEdge net text after × (t ≡ in_round s s.last after)) ⊎ IsEdgeAfter s net text t
+IsEdgeStepBy s (Some net) text t = ((after : NetState) × IsEdge s.run.form net text after × (t ≡ in_round s s.last after)) ⊎ IsEdgeAfter s net text t
 
 abbrev pub IsEdgeStep : Steps → List ℕ → Steps → Type 0
 IsEdgeStep s text t = IsEdgeStepBy s s.begun text t
@@ -232,6 +250,6 @@ IsNoEdge s = IsNoEdgeBy s s.begun
 
 -- ---- `show`
 
--- the state line of the device of this number; the stepper stands where it stood
+-- the state line of the device of this number, or its object; the stepper stands where it stood
 abbrev pub IsShown : Steps → ℕ → List ℕ → Steps → Type 0
-IsShown s device text t = (shown : State) × (slice_get (shown_net s).devices device ≡ Some shown) × (text ≡ state_line shown) × (t ≡ s)
+IsShown s device text t = (shown : State) × (slice_get (shown_net s).devices device ≡ Some shown) × (text ≡ state_text s.run.form shown) × (t ≡ s)

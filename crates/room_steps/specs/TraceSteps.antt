@@ -1,14 +1,16 @@
--- What the steps of a text write of rounds is what the run's trace has of them (own).
-use Rattle.std.specs.Prelude.{◌≡◌, ℕ, ◌-◌, ◌≤◌, ◌⊎◌, List, [], ◌∷◌, ◌++◌, codes}
+-- What the steps of a text write of rounds is what the run's trace has of them, or its objects (own).
+use Rattle.std.specs.Prelude.{◌≡◌, false, ℕ, ◌-◌, ◌≤◌, ◌⊎◌, List, [], ◌∷◌, ◌++◌, codes}
 use Rattle.std.proofs.Common.{inl, inr}
 use Rattle.std.specs.List.{repeat}
 use Rattle.room_net.specs.State.{NetState}
 use Rattle.room_run.specs.declared.run.Totals.{Totals}
-use Rattle.room_run.specs.Emulate.{IsTraceOf}
+use Rattle.room_run.specs.Emulate.{AreObjectsOf, IsTraceOf}
+use Rattle.record_core.specs.declared.cell.Form.{Form}
+use Rattle.record_core.specs.declared.cell.Form.TheVariants.{Text, Json}
 use Rattle.room_step_text.specs.declared.commands.StepCommand.{StepCommand}
 use Rattle.room_step_text.specs.declared.commands.StepCommand.TheVariants.{Edge, Round, Until, Show}
 use Rattle.room_steps.specs.Steps.{Point, Run, Steps}
-use Rattle.room_steps.specs.StepRun.{AreDue, AreStepsOf, IsDue}
+use Rattle.room_steps.specs.StepRun.{AreDue, AreStepsOf, IsDue, ended_text}
 use Rattle.room_steps.specs.Trace.{Rounds, first_point}
 
 -- what a step writes of rounds: `round` and `until` their whole text; the others, and what `ended` answers, nothing
@@ -39,14 +41,19 @@ pub record AreFirstRounds (run : Run) (net : NetState) (count : ℕ) (text whole
   pub taken : Rounds run rounds (first_point run net) front last
   pub most : rounds ≤ count
   pub all : (rounds ≡ count) ⊎ (rounds ≡ totals.rounds)
-  pub reported : text ≡ front ++ repeat (count - rounds) (codes "ended\n")
+  pub reported : text ≡ front ++ repeat (count - rounds) (ended_text run.form)
   pub more : List ℕ
   pub begins : whole ≡ front ++ more
+
+-- the trace of the run that the texts spell, or its objects
+abbrev pub IsToldOf : Form → List ℕ → List ℕ → List ℕ → Totals → Type 0
+IsToldOf Text topology script text totals = IsTraceOf topology script text totals
+IsToldOf Json topology script text totals = AreObjectsOf false topology script text totals
 
 -- What the steps of a text write of rounds stands in the trace of the same topology and script, in the same order, and each but
 -- once. Where all steps are `round`, it is what the trace begins with.
 pub record StepsAreTheTrace : Type 0 where
-  pub in_order : (topology script steps text whole : List ℕ) (totals : Totals) → IsTraceOf topology script whole totals → (p : AreStepsOf topology script steps text)
+  pub in_order : (form : Form) (topology script steps text whole : List ℕ) (totals : Totals) → IsToldOf form topology script whole totals → (p : AreStepsOf form topology script steps text)
       → StandInOrder (all_round_texts p.commands p.first text p.last p.due) whole
-  pub first_rounds : (topology script steps text whole : List ℕ) (totals : Totals) → IsTraceOf topology script whole totals → (p : AreStepsOf topology script steps text)
+  pub first_rounds : (form : Form) (topology script steps text whole : List ℕ) (totals : Totals) → IsToldOf form topology script whole totals → (p : AreStepsOf form topology script steps text)
       → (count : ℕ) → p.commands ≡ repeat count (Round ∷ []) → AreFirstRounds p.first.run p.first.last.net count text whole totals

@@ -1,6 +1,7 @@
 //! A run of the network step by step: an edge, a round, or on to a round that is looked for.
 #![tactic(auto)]
 
+mod events_text;
 mod laws;
 mod position;
 pub mod step_run;

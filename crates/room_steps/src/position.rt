@@ -5,13 +5,13 @@ ghost use Rattle.line_wave.specs.Pulls.{are_timely};
 ghost use Rattle.room_net.specs.Sound.{EndsEarly};
 ghost use Rattle.room_net.specs.State.{first_net};
 ghost use Rattle.room_net.specs.Underway.{OfRound, standing_reported};
-ghost use Rattle.room_step_text.specs.EdgeText.{edge_line};
+ghost use Rattle.room_step_text.specs.EdgeText.{edge_text};
 ghost use Rattle.text_core.specs.Cut.{WrittenText};
 ghost use Rattle.text_core.specs.Adds.{Adds};
 ghost use Rattle.room_run.specs.Heard.{Hears};
 ghost use Rattle.room_run.specs.declared.run.Turn.TheVariants.{Apply, Stop};
 ghost use Rattle.edid_core.specs.Root.{HasAddress};
-ghost use Rattle.room_steps.specs.Ready.{AheadIf, AreAlike, Begins, Brings, HearsFirst, IsAhead, IsReady, Passes, happened, point_of, written_of};
+ghost use Rattle.room_steps.specs.Ready.{AheadIf, AreAlike, Begins, Brings, HearsFirst, IsAhead, IsReady, Passes, happened, point_of, run_of, written_of};
 ghost use Rattle.room_steps.specs.declared.position.Ahead.{Ahead as AheadOf};
 ghost use Rattle.room_steps.specs.Steps.{ComesTo, IsOver, IsRoundStep, after_events, start_text, turn_at};
 
@@ -29,10 +29,11 @@ use room_trace::add_new_ports;
 use std::alloc::{AllocError, Global};
 use text_core::{Counted, Sink, WriteFault};
 
-/// What a run is made of: the television's EDID, which is large and stands on the heap, the events in the order of their
-/// times, and the end.
+/// What a run is made of: the form of its lines, the television's EDID, which is large and stands on the heap, the events in the
+/// order of their times, and the end.
 #[derive(Drop)]
 pub(crate) struct RunInput {
+    pub form: Form,
     pub edid: Box<Option<Edid>>,
     pub events: Vec<TimedEvent>,
     pub end: u64,
@@ -221,25 +222,31 @@ impl Position {
         edge
     }
 
-    /// Adds the lines that are due before any event: those of the ports, before the first round.
+    /// Adds the lines that are due before any event, or their objects: those of the ports, before the first round.
     #[tactic(auto, using(text_core::proofs::Adding::nothing))]
     pub fn add_start<S: Sink>(&self, input: &RunInput, out: &mut Counted<'_, S>)
         requires addressed { HasAddress input.now.edid.value }
-        ensures { Adds out.old out.new (start_text input.now.edid.value (point_of input.now.events.items self.now)) }
+        ensures { Adds out.old out.new (start_text (run_of input.now) (point_of input.now.events.items self.now)) }
     {
         if self.is_first {
-            add_new_ports(out, Form::Text, 0, &input.edid, self.net.tree(), &[]);
+            add_new_ports(out, input.form, 0, &input.edid, self.net.tree(), &[]);
         }
     }
 
-    /// Writes the line of an edge through which the line of the round that was begun is told. All devices hear one line:
-    /// the first one's receiver stands where each one does.
-    pub fn write_edge<S: Sink>(&self, out: &mut S, edge: Edge) -> Result<u128, WriteFault>
+    /// Writes the line of an edge, or its object, through which the line of the round that was begun is told. All devices hear one
+    /// line: the first one's receiver stands where each one does.
+    pub fn write_edge<S: Sink>(
+        &self,
+        out: &mut S,
+        form: Form,
+        edge: Edge,
+    ) -> Result<u128, WriteFault>
         requires underway { IsSome self.now.net.value.heard }
         requires some { 0 < length self.now.net.value.tree }
-        ensures { (text : List ℕ) × OfRound self.now.net.value (λ begin heard low. text ≡ edge_line self.now.net.value.devices edge (standing_reported low begin heard))
+        requires few { length self.now.net.value.devices ≤ 15 }
+        ensures { (text : List ℕ) × OfRound self.now.net.value (λ begin heard low. text ≡ edge_text form self.now.net.value.devices edge (standing_reported low begin heard))
             × WrittenText (S.contents out.old) (S.contents out.new) (S.is_stuck out.old) (S.is_stuck out.new) text result }
     {
-        write_edge(out, self.net.devices(), edge, self.net.standing_of(0))
+        write_edge(out, form, self.net.devices(), edge, self.net.standing_of(0))
     }
 }

@@ -1,17 +1,19 @@
 //! The steps of a text, taken on the run of a topology and a script.
-ghost use Rattle.std.specs.Prelude.{◌≡◌, ◌||◌, ◌↔◌, ℕ, List, All, IfOk, IfErr, OnOk, OnErr, IsTrue, true, false, codes};
+ghost use Rattle.std.specs.Prelude.{◌≡◌, ◌||◌, ◌↔◌, ℕ, List, All, IfOk, IfErr, OnOk, OnErr, IsTrue, true, false};
+ghost use Rattle.text_core.specs.Adds.{Adds};
 ghost use Rattle.std.specs.Io.KnownBytes.{Appends};
 ghost use Rattle.text_core.specs.Cut.{WrittenText};
 ghost use Rattle.room_steps.specs.Steps.{IsTaken, device_count, is_write as step_fails};
-ghost use Rattle.room_steps.specs.StepRun.{AreCut, AreDue, AreRefused, AreStepsOf, IsCommandTaken, IsCutBy, IsNoStep, IsStep, NamesDevice, is_write};
+ghost use Rattle.room_steps.specs.StepRun.{AreCut, AreDue, AreRefused, AreStepsOf, IsCommandTaken, IsCutBy, IsNoStep, IsStep, NamesDevice, ended_text, is_write};
 
 use crate::stepper::{StepError, Stepper};
 use edid_core::root_on_heap;
+use record_core::{Form, Value, add_record, cells};
 use room_run::emulate::EmulateError;
 use room_script::{parse_script, parse_topology};
 use room_step_text::{CommandsError, StepCommand, parse_commands};
 use std::alloc::Global;
-use text_core::{Counted, Sink, WriteFault, counted, cut_at};
+use text_core::{Counted, Piece, Sink, WriteFault, counted, cut_at};
 use thiserror::Error;
 
 /// Why steps were not taken, or not all of them.
@@ -26,12 +28,20 @@ pub enum StepRunError {
     Steps { line: u64, word: usize },
 }
 
-// Writes that the run has no such step any more.
-fn write_ended<S: Sink>(out: &mut S) -> Result<u128, WriteFault>
-    ensures { WrittenText (S.contents out.old) (S.contents out.new) (S.is_stuck out.old) (S.is_stuck out.new) (codes "ended\n") result }
+// Adds that the run has no such step any more.
+fn add_ended<S: Sink>(out: &mut Counted<'_, S>, form: Form)
+    ensures { Adds out.old out.new (ended_text form) }
+{
+    let cells = cells![line("", Value::One(Piece::Text("ended")))];
+    add_record(out, form, "ended", &cells);
+}
+
+// Writes it.
+fn write_ended<S: Sink>(out: &mut S, form: Form) -> Result<u128, WriteFault>
+    ensures { WrittenText (S.contents out.old) (S.contents out.new) (S.is_stuck out.old) (S.is_stuck out.new) (ended_text form) result }
 {
     let mut text = Counted::new(out);
-    text.add(b"ended\n");
+    add_ended(&mut text, form);
     let written = text.written();
     // No effect at run time. The proof reads what `out` holds from the sink that comes back.
     let _below = text.into_sink();
@@ -65,11 +75,12 @@ fn take_command<S: Sink>(
     requires { NamesDevice (device_count stepper.old) command }
     ensures { IsCommandTaken command stepper.old stepper.new (S.contents out.old) (S.contents out.new) (S.is_stuck out.old) (S.is_stuck out.new) result }
 {
+    let form = stepper.form();
     match take_step(stepper, command, out) {
         Ok(count) => Ok(count),
         Err(error) => match error {
             StepError::Write(count) => Err(WriteFault { count }),
-            StepError::Ended => write_ended(out),
+            StepError::Ended => write_ended(out, form),
         },
     }
 }
@@ -96,7 +107,7 @@ fn take_commands<S: Sink>(
     Ok(written)
 }
 
-/// Takes the steps of a text on the run of a topology and a script, and writes what each gives, or `ended` where the
+/// Takes the steps of a text on the run of a topology and a script, and writes what each gives in a form, or `ended` where the
 /// run has no such step any more.
 ///
 /// # Errors
@@ -106,15 +117,16 @@ fn take_commands<S: Sink>(
 /// as long as it reports.
 pub fn step_run<S: Sink>(
     alloc: Global,
+    form: Form,
     topology: &[u8],
     script: &[u8],
     steps: &[u8],
     out: &mut S,
 ) -> Result<(), StepRunError>
-    ensures ok { OnOk result ((text : List ℕ) × AreStepsOf topology.now script.now steps.now text × Appends (S.contents out.old) (S.contents out.new) text) }
+    ensures ok { OnOk result ((text : List ℕ) × AreStepsOf form topology.now script.now steps.now text × Appends (S.contents out.old) (S.contents out.new) text) }
     ensures reported { IfErr result (AreRefused topology.now script.now steps.now) }
     ensures write { S.is_stuck out.old ≡ false → (IsTrue (is_write result) ↔ IsTrue (S.is_stuck out.new)) }
-    ensures cut { IfErr result (IsCutBy topology.now script.now steps.now (S.contents out.old) (S.contents out.new)) }
+    ensures cut { IfErr result (IsCutBy form topology.now script.now steps.now (S.contents out.old) (S.contents out.new)) }
 {
     let topology = match parse_topology(alloc, topology) {
         Ok(topology) => topology,
@@ -133,7 +145,7 @@ pub fn step_run<S: Sink>(
         Err(CommandsError::At { line, word }) => return Err(StepRunError::Steps { line, word }),
         Err(CommandsError::Memory) => return Err(StepRunError::Run(EmulateError::Memory)),
     };
-    let Ok(mut stepper) = Stepper::new(alloc, topology, script) else {
+    let Ok(mut stepper) = Stepper::in_form(alloc, form, topology, script) else {
         return Err(StepRunError::Run(EmulateError::Memory));
     };
     match take_commands(&mut stepper, &commands, out) {

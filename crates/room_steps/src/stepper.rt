@@ -4,6 +4,7 @@ ghost use Rattle.room_steps.specs.Over.{OverIf, is_ended};
 
 use crate::position::Position;
 use crate::walk::Walk;
+use record_core::Form;
 use room_script::{Script, Topology};
 use room_step_text::Break;
 use std::alloc::{AllocError, Global};
@@ -65,6 +66,7 @@ impl Stepper {
     ghost use Rattle.std.specs.Option.{option_map};
     ghost use Rattle.room_script.specs.Script.{IsScript, course_of};
     ghost use Rattle.edid_core.specs.declared.edid.Edid.{Edid};
+    ghost use Rattle.record_core.specs.declared.cell.Form.TheVariants.{Text};
     ghost use Rattle.edid_core.specs.Root.{IsRoot as IsRootOf};
     ghost use Rattle.room_net.specs.State.{first_net};
     ghost use Rattle.room_steps.specs.Steps.{IsEdgeStep, IsNever, IsNoEdge, IsOver, IsRound, IsTaken, IsUntil, IsShown, begun_at, device_count, is_write};
@@ -143,8 +145,15 @@ impl Stepper {
         self.walk.show(device, out)
     }
 
-    /// A stepper at the start of the run. The script was read with that topology, whose EDID, where it is given, is
-    /// accepted and has an HDMI block.
+    /// The form in which it writes.
+    pub fn form(&self) -> Form
+        ensures { result ≡ self.now.run.form }
+    {
+        self.walk.form()
+    }
+
+    /// A stepper at the start of the run, that writes lines. The script was read with that topology, whose EDID, where it is given,
+    /// is accepted and has an HDMI block.
     ///
     /// # Errors
     ///
@@ -154,9 +163,29 @@ impl Stepper {
         requires script { IsScript (length topology.tree) (course_of script) }
         requires root { (edid : Option Edid) × IsRootOf (option_map (λ bytes. bytes.items) topology.edid) edid }
         ensures { IfOk result (λ stepper. (edid : Option Edid) × IsRootOf (option_map (λ bytes. bytes.items) topology.edid) edid
-            × (stepper ≡ begun_at edid (course_of script) (first_net topology.tree script.pulses.items))) }
+            × (stepper ≡ begun_at Text edid (course_of script) (first_net topology.tree script.pulses.items))) }
     {
-        let walk = Walk::new(alloc, topology, script)?;
+        Stepper::in_form(alloc, Form::Text, topology, script)
+    }
+
+    /// The same, that writes in a form.
+    ///
+    /// # Errors
+    ///
+    /// Want of memory.
+    pub fn in_form(
+        alloc: Global,
+        form: Form,
+        topology: Topology,
+        script: Script,
+    ) -> Result<Stepper, AllocError>
+        requires some { 0 < length topology.tree }
+        requires script { IsScript (length topology.tree) (course_of script) }
+        requires root { (edid : Option Edid) × IsRootOf (option_map (λ bytes. bytes.items) topology.edid) edid }
+        ensures { IfOk result (λ stepper. (edid : Option Edid) × IsRootOf (option_map (λ bytes. bytes.items) topology.edid) edid
+            × (stepper ≡ begun_at form edid (course_of script) (first_net topology.tree script.pulses.items))) }
+    {
+        let walk = Walk::new(alloc, form, topology, script)?;
         let before = walk.place(alloc)?;
         let after = walk.place(alloc)?;
         Ok(Stepper {

@@ -4,19 +4,22 @@ ghost use Rattle.text_core.specs.Cut.{WrittenText};
 ghost use Rattle.edid_core.specs.Root.{HasAddress};
 ghost use Rattle.room_steps.specs.Ready.{IsReady, point_of, run_of};
 ghost use Rattle.room_steps.specs.Steps.{step_text};
+ghost use Rattle.room_trace.specs.Records.{state_text};
 ghost use Rattle.room_steps.specs.declared.stepper.StepError.TheVariants.{Write};
 
+use crate::events_text::EventsText;
 use crate::position::{Ahead, Position, RunInput};
 use crate::stepper::StepError;
+use device_core::Device;
 use edid_core::root_on_heap;
 use line_rounds::Outcome;
 use line_wire::EdgeWire;
 use record_core::Form;
 use room_net::Net;
-use room_run::{TraceText, edid_on_heap};
+use room_run::edid_on_heap;
 use room_script::{Script, Topology};
 use room_step_text::{Break, stops};
-use room_trace::{add_round, write_state};
+use room_trace::{add_round, add_state};
 use std::alloc::{AllocError, Global};
 use std::marker::Model;
 use std::mem;
@@ -75,13 +78,22 @@ fn write_step<S: Sink>(
 {
     let mut text = Counted::new(out);
     before.add_start(input, &mut text);
-    let mut trace = TraceText::new(text, &input.edid);
-    let _begin = before.to_round(input, &mut trace);
-    let TraceText {
-        mut text,
-        passed: _passed,
-    } = trace;
-    add_round(&mut text, Form::Text, after.net.devices(), outcome);
+    let mut events = EventsText::new(text, input.form, &input.edid);
+    let _begin = before.to_round(input, &mut events);
+    let mut text = events.into_text();
+    add_round(&mut text, input.form, after.net.devices(), outcome);
+    let written = text.written();
+    // No effect at run time. The proof reads what `out` holds from the sink that comes back.
+    let _below = text.into_sink();
+    written
+}
+
+// Writes the state line of a device, or its object.
+fn write_state<S: Sink>(out: &mut S, form: Form, device: &Device<16>) -> Result<u128, WriteFault>
+    ensures { WrittenText (S.contents out.old) (S.contents out.new) (S.is_stuck out.old) (S.is_stuck out.new) (state_text form device.now) result }
+{
+    let mut text = Counted::new(out);
+    add_state(&mut text, form, device);
     let written = text.written();
     // No effect at run time. The proof reads what `out` holds from the sink that comes back.
     let _below = text.into_sink();
@@ -268,7 +280,7 @@ impl Walk {
         let Some(edge) = inside.begin_round(&self.input) else {
             return Err(StepError::Ended);
         };
-        match inside.write_edge(out, edge) {
+        match inside.write_edge(out, self.input.form, edge) {
             Err(fault) => Err(step_error(fault)),
             Ok(count) => {
                 self.stand_in(last, inside);
@@ -296,7 +308,7 @@ impl Walk {
             last.is_first = false;
             return self.first_edge(last, next, out);
         };
-        match self.inside.write_edge(out, edge) {
+        match self.inside.write_edge(out, self.input.form, edge) {
             Err(fault) => Err(step_error(fault)),
             Ok(count) => {
                 self.ahead = None;
@@ -340,28 +352,43 @@ impl Walk {
         ensures step { IsTaken (IsShown self.now device) ⊥ self.now self.now (S.contents out.old) (S.contents out.new) result }
         ensures flag { S.is_stuck out.new ≡ (is_write result || S.is_stuck out.old) }
     {
-        match write_state(out, self.shown().device(device)) {
+        match write_state(out, self.input.form, self.shown().device(device)) {
             Err(fault) => Err(step_error(fault)),
             Ok(count) => Ok(count),
         }
     }
 
-    /// The start of a run, as of `Stepper::new`.
-    pub fn new(alloc: Global, topology: Topology, script: Script) -> Result<Walk, AllocError>
+    /// The form of its lines.
+    pub fn form(&self) -> Form
+        ensures { result ≡ self.now.run.form }
+    {
+        self.input.form
+    }
+
+    /// The start of a run, as of `Stepper::in_form`.
+    pub fn new(
+        alloc: Global,
+        form: Form,
+        topology: Topology,
+        script: Script,
+    ) -> Result<Walk, AllocError>
         requires some { 0 < length topology.tree }
         requires script { IsScript (length topology.tree) (course_of script) }
         requires root { (edid : Option Edid) × IsRootOf (option_map (λ bytes. bytes.items) topology.edid) edid }
         ensures { IfOk result (λ walk. (edid : Option Edid) × IsRootOf (option_map (λ bytes. bytes.items) topology.edid) edid
-            × (walk ≡ begun_at edid (course_of script) (first_net topology.tree script.pulses.items))) }
+            × (walk ≡ begun_at form edid (course_of script) (first_net topology.tree script.pulses.items))) }
     {
         let Ok(edid) = root_on_heap(alloc, &topology.edid) else {
             return Err(AllocError);
         };
         let edid = edid_on_heap(alloc, edid)?;
+        // No effect at run time. The proof reads from it how many devices there are at most.
+        let _count = topology.tree.count();
         let inside = Position::start(alloc, topology.tree.copy(), &[])?;
         let last = Position::start(alloc, topology.tree, &script.pulses)?;
         Ok(Walk {
             input: RunInput {
+                form,
                 edid,
                 events: script.events,
                 end: script.end,

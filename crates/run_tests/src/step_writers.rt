@@ -3,6 +3,7 @@ ghost use Rattle.std.specs.Prelude.{length, IfSome};
 ghost use Rattle.room_script.specs.Script.{IsScript, course_of};
 
 use edid_core::root_of;
+use record_core::Form;
 use room_run::emulate::EmulateError;
 use room_script::{Script, Topology, parse_script, parse_topology};
 use room_steps::step_run::{StepRunError, step_run};
@@ -139,6 +140,7 @@ fn until_is_taken_once_its_text_is_written(rt: HostRuntime) {
 fn stepped(alloc: Global, out: &mut Stingy) -> Result<(), StepRunError> {
     step_run(
         alloc,
+        Form::Text,
         TWO.as_bytes(),
         SCRIPT.as_bytes(),
         STEPS.as_bytes(),

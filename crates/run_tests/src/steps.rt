@@ -1,4 +1,5 @@
 //! Steps worked out by hand from the standard's times, to the byte.
+use record_core::Form;
 use room_run::emulate::EmulateError;
 use room_steps::step_run::{StepRunError, step_run};
 use std::alloc::Global;
@@ -76,6 +77,7 @@ fn are_written(alloc: Global, steps: &Steps) -> bool {
     let mut out = Vec::new(alloc);
     let answer = step_run(
         alloc,
+        Form::Text,
         steps.topology.as_bytes(),
         steps.script.as_bytes(),
         steps.steps.as_bytes(),
@@ -121,6 +123,7 @@ fn refusal(alloc: Global, script: &str, steps: &str) -> Result<(), StepRunError>
     let mut room = [0; 0];
     step_run(
         alloc,
+        Form::Text,
         TWO.as_bytes(),
         script.as_bytes(),
         steps.as_bytes(),

@@ -6,6 +6,7 @@ use conversion_calls::{edid_to_text, text_to_hex};
 use edid_texts::{edid_from_bytes, write_text};
 use line_frames::Frame;
 use message_text::{asm_lines, write_frame};
+use record_core::Form;
 use room_run::edges::emulate_edges;
 use room_run::emulate::emulate;
 use room_run::line::emulate_line;
@@ -101,6 +102,7 @@ fn step(rt: &(impl Abort + AllocGlobal), input: &str, out: &mut Out<'_>) -> Stri
         rt,
         step_run(
             rt.alloc(),
+            Form::Text,
             topology.as_bytes(),
             script.as_bytes(),
             steps.as_bytes(),

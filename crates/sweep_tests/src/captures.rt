@@ -82,7 +82,7 @@ fn readings_are_judged(rt: HostRuntime) {
 fn remarks_are_judged(rt: HostRuntime) {
     let capture = read_edges(rt.alloc(), REMARKED.as_bytes()).expect(&rt, "a capture");
     let (text, counts) = report_of(&rt, WANTED, &capture);
-    holds(&rt, counts.as_str() == "3 of 6", "counts");
+    holds(&rt, counts.as_str() == "4 of 8", "counts");
     holds(&rt, text.as_str() == REMARKS_REPORT, "report");
 }
 

@@ -167,7 +167,9 @@ label => expectations line 1: word in word 1
 label a at 5||expect within 1 of a short => none
 # a comment => none
 expect no-remark => none
-expect no-remark more => expectations line 1: word in word 2
+expect no-remark free 9 => none
+expect no-remark *-low => none
+expect no-remark more => expectations line 1: pattern in word 2
 expect no-remark  => expectations line 1: word in word 2
 label a expect no-remark => expectations line 1: word in word 3
 expect no-remarks => expectations line 1: word in word 1
@@ -221,6 +223,8 @@ expect remark *-low slot * block 1
 expect remark bit-low slot 2
 expect remark free
 expect from 0 to 40000 silent 1
+expect no-remark free
+expect no-remark *-low slot *
 ";
 
 /// Those of readings, and after them those of remarks; below each that fails stand the remarks.
@@ -235,7 +239,10 @@ not ok 5 - line 6: expect remark bit-low slot 2
 #   slot 1 block 1 bit 1 low 820 not 400..800
 not ok 6 - line 7: expect remark free
 #   slot 1 block 1 bit 1 low 820 not 400..800
-1..6
+ok 7 - line 9: expect no-remark free
+not ok 8 - line 10: expect no-remark *-low slot *
+#   slot 1 block 1 bit 1 low 820 not 400..800
+1..8
 ";
 
 /// When a frame begins, and its bits: a television's poll, a frame to it, and one that is not over at the end.

@@ -25,7 +25,7 @@ fn reads_captures_in_each_form(rt: HostRuntime) {
 
 /// A command line, an input with `;` for a line feed, and what is read in it, with `;` for one: forms by their names; a wire by
 /// its name and the first; a pulse of 3 and a gap of 4, which are passed over; levels that are turned; readings that begin before
-/// the line was idle; bad starts one after another, as one line.
+/// the line was idle; bad starts one after another, as one line; and of both the object.
 const FLAGS: &str = "\
 mon --from edges => 1000 0;4700 1;5500 0;6100 1;20000 end; => 1000 8251 silent 1;
 mon --from csv --signal CEC => Time,SCL,CEC;0,1,1;0.021,1,0;0.0247,1,1;0.0255,1,0;0.0261,1,1; => 21000 28251 silent 1;
@@ -44,6 +44,8 @@ mon --fold => 1000 0;1400 1;2000 0;2400 1;3000 0;3600 1;20000 end; => 1000 3600 
 mon --fold => 1000 0;1400 1;20000 end; => 1000 1400 bad-start -;
 mon --fold --from edges --from-start => 1000 0;1400 1;2000 0;2400 1;21000 0;24700 1;25500 0;26100 1;30000 0;30400 1;31000 0;31400 1;40000 end; => 1000 2400 bad-starts 2;21000 28251 silent 1;30000 31400 bad-starts 2;
 mon --fold --audit => 1000 0;1400 1;2000 0;2400 1;3000 0;3600 1;20000 end; => 1000 1400 bad-start -;  start low 400 not 3500..3900;  start total 1000 not 4300..4700;2000 3600 bad-starts 2;  all readings;
+mon --fold --json => 1000 0;1400 1;2000 0;2400 1;3000 0;3600 1;20000 end; => {\"line\":\"1000 3600 bad-starts 3\",\"type\":\"reading\",\"begin\":1000,\"close\":3600,\"ending\":\"bad-starts\",\"count\":3};
+mon --json --from-idle => 1000 0;4700 1;5500 0;6100 1;13299 end; => {\"line\":\"0 13299 joined -\",\"type\":\"reading\",\"begin\":0,\"close\":13299,\"ending\":\"joined\",\"bits\":null};
 mon --from-start --from csv => Time,CEC;0,1;0.001,0;0.0047,1;0.0055,0;0.0061,1; => 1000 8251 silent 1;
 mon => Time,CEC;0,1;0.001,0;0.0047,1;0.0055,0;0.0061,1;0.03,0;0.0304,1;0.04,1; => 0 13300 joined -;30000 30400 bad-start -;
 ";

@@ -304,8 +304,6 @@ mon --follow --from edges --fold
 mon --follow --from edges --strict
 mon --follow --from edges --signal CEC
 mon --follow=yes --from edges
-mon --fold --json
-mon --audit --json --fold
 mon --fold --fold
 mon --fold=yes
 check --capture --fold

@@ -43,6 +43,8 @@ const FILES: &[(&str, &[u8])] = &[
     ("film.test", FILM),
     ("film.sweep", SWEEP),
     ("wrong film.test", WRONG),
+    ("begun.txt", b"edid 1.3\n"),
+    ("cut.edid", b"\x00\xff\xff\xff"),
     ("empty", b""),
 ];
 
@@ -102,6 +104,30 @@ fn reads_the_file_that_is_named(rt: HostRuntime) {
         };
         let reported = with_files(&rt, line, false);
         ends(&rt, reported, 0, want.as_bytes(), b"", line, "a file");
+    }
+}
+
+/// Command lines, and why what a file holds is no EDID: its first bytes say how it is read, and those of standard input do not.
+const NO_EDIDS: &str = "\
+edid|begun.txt => text: syntax 2
+edid|--meaning|begun.txt => text: syntax 2
+edid|--hex|begun.txt => dump: none
+edid|frames.txt => dump: none
+edid|--check|frames.hex => dump: none
+edid|--words|frames.txt => text: syntax 1
+edid|cut.edid => edid: length
+edid|empty => edid: length
+edid|- => edid: length
+edid => edid: length
+";
+
+#[test]
+fn tells_by_its_first_bytes_how_a_file_is_read(rt: HostRuntime) {
+    for case in NO_EDIDS.lines() {
+        let (line, cause) = two_parts(&rt, case);
+        let fault = format!(in rt.alloc(); "hdminet: {cause}\n").expect(&rt, "a fault");
+        let reported = with_files(&rt, line, false);
+        ends(&rt, reported, 1, b"", fault.as_bytes(), line, "no EDID");
     }
 }
 

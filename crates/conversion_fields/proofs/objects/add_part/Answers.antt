@@ -4,4 +4,4 @@ use Rattle.conversion_fields.proofs.objects.add_part.Goals as goal
 
 pub returns : goal.returns
 unfolding part_object
-returns g c = then _ _ _ _ _ c.add_bytes.ensures (then _ _ _ _ _ c.add_string.ensures c.add_lengths.ensures)
+returns g c = then _ _ _ _ _ c.add_begin.ensures (then _ _ _ _ _ c.add_string.ensures c.add_lengths.ensures)

@@ -1,10 +1,10 @@
 use Rattle.std.proofs.Common.{rules}
 use Rattle.text_core.proofs.Adding.{text_ended}
-use Rattle.conversion_fields.specs.Blocks.{extensions_text}
+use Rattle.conversion_fields.specs.Whole.{edid_text}
 use Rattle.conversion_fields.proofs.writing.write_fields.Goals as goal
 
 pub returns : goal.returns
 returns g c =
-    text_ended g.S.Sink.contents g.S.Sink.is_stuck c.args.out.now _ c.into_sink-below.result.now _ c.into_sink-below.result.ghost_name c.new-text.result c.add_extensions.new.out
-    (extensions_text 1 c.args.extensions.now) c.written-written.result c.new-text.ensures c.add_extensions.ensures c.written-written.ensures.text
+    text_ended g.S.Sink.contents g.S.Sink.is_stuck c.args.out.now _ c.into_sink-below.result.now _ c.into_sink-below.result.ghost_name c.new-text.result c.add_edid.new.out
+    (edid_text c.args.base.now c.args.extensions.now) c.written-written.result c.new-text.ensures c.add_edid.ensures c.written-written.ensures.text
     c.into_sink-below.ensures.loan c.into_sink-below.ensures.known c.into_sink-below.ensures.stuck (search rules)

@@ -48,6 +48,9 @@ decreases-is_senders_met l = 90 + names_weight (map (λ n. n.now) l.room.now) + 
 abbrev pub decreases-is_tail_met : goal.decreases-is_tail_met
 decreases-is_tail_met l = judged_weight (judged_as l.who) + length l.pattern.now
 
+abbrev pub decreases-are_bits_met : goal.decreases-are_bits_met
+decreases-are_bits_met l = 1 + judged_weight (judged_as l.who) + length l.pattern.now
+
 abbrev pub decreases-is_after_met : goal.decreases-is_after_met
 decreases-is_after_met l = after_weight l.after + length l.pattern.now
 

@@ -13,8 +13,3 @@ pub returns-in-Room : goal.returns-in-Room
 returns-in-Room g c =
     let P : Objects → Type 0 = λ o. OnOk c.run_to_room.result (Writes (Json o) c.args.self.signal.now c.args.self.input.now (g.W.Sink.contents c.args.out.now) (g.W.Sink.contents c.run_to_room.new.out)) in
     subst P (sym c.in-Room.is) c.run_to_room.ensures
-
-pub returns-in-Capture : goal.returns-in-Capture
-returns-in-Capture g c =
-    let P : Objects → Type 0 = λ o. OnOk c.write_capture.result (Writes (Json o) c.args.self.signal.now c.args.self.input.now (g.W.Sink.contents c.args.out.now) (g.W.Sink.contents c.write_capture.new.out)) in
-    subst P (sym c.in-Capture.is) c.write_capture.ensures

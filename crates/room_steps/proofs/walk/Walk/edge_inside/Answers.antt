@@ -2,7 +2,7 @@ use Rattle.std.proofs.Common.{◌≡◌, ◌∙◌, drop, IsSome, Some, false, O
 use Rattle.line_wave.specs.Line.{IsWave}
 use Rattle.room_steps.specs.Ready.{begun_in, point_of, run_of, written_in}
 use Rattle.room_steps.specs.Steps.{Point, Steps, IsEdgeStep, IsFirstStep, IsNoEdge, IsOver, IsTaken, in_round}
-use Rattle.room_steps.proofs.InRound.{IsIn, ahead_ends, ahead_gives, alike_in, edge_cut, edge_reported, ends, heard_on, inside_underway, is_at, is_in, same_written, some_inside, steps, still_in, taken_after}
+use Rattle.room_steps.proofs.InRound.{IsIn, ahead_ends, ahead_gives, alike_in, edge_cut, edge_reported, ends, few_inside, heard_on, inside_underway, is_at, is_in, same_written, some_inside, steps, still_in, taken_after}
 use Rattle.room_steps.proofs.walk.Walk.edge_inside.Goals as goal
 
 pub hear_ahead-requires-clause-underway : goal.hear_ahead-requires-clause-underway
@@ -81,6 +81,19 @@ write_edge-requires-clause-some g c =
     let stands = heard_on s here.ahead now here.inside at stood heard.written heard.kept.0 heard.kept.1 heard.ahead.3.underway in
     some_inside s.run.end s.last (point_of es at) stands.ready stands.round
 
+pub write_edge-requires-clause-few : goal.write_edge-requires-clause-few
+write_edge-requires-clause-few g c =
+    let here = c.self.inside in
+    let es = here.input.events.items in
+    let at = c.hear_ahead.new.self in
+    let now = c.hear_ahead.new.ahead in
+    let heard = c.in-Some.ensures in
+    let s : Steps = steps (run_of here.input) (point_of es here.last) (begun_in here.is_begun (written_in here.ahead (point_of es here.inside))) in
+    let some = subst (λ (x : Steps). IsSome x.begun) (sym c.self.view_is) c.requires in
+    let stood : IsIn s here.ahead here.inside = is_in here.input here.last here.inside here.ahead here.is_begun some c.self.invariant.1 c.self.invariant.2 in
+    let stands = heard_on s here.ahead now here.inside at stood heard.written heard.kept.0 heard.kept.1 heard.ahead.3.underway in
+    few_inside s.run.end s.last (point_of es at) stands.ready stands.round
+
 pub returns-in-Err-clause-step : goal.returns-in-Err-clause-step
 returns-in-Err-clause-step g c =
     let here = c.self.inside in
@@ -99,9 +112,9 @@ returns-in-Err-clause-step g c =
     let old = g.S.Sink.contents c.args.out.now in
     let new = g.S.Sink.contents c.write_edge.new.out in
     let cut : IsTaken (IsEdgeStep s) (IsNoEdge s) s s old new (Err c.step_error.result) =
-    edge_cut (IsEdgeStep s) (IsNoEdge s) s (in_round s s.last at.net.value) at.net.value c.in-Some.edge
+    edge_cut (IsEdgeStep s) (IsNoEdge s) s (in_round s s.last at.net.value) here.input.form at.net.value c.in-Some.edge
     old new (g.S.Sink.is_stuck c.args.out.now) (g.S.Sink.is_stuck c.write_edge.new.out) c.in-Err.fault c.step_error.result
-    c.step_error.ensures (λ text line. ahead_gives s (in_round s s.last at.net.value) now at.net.value heard.ahead.0 c.in-Some.edge text stands.net heard.ahead.1 heard.ahead.2 heard.ahead.3 line refl) c.in-Err.ensures in
+    refl c.step_error.ensures (λ text line. ahead_gives s (in_round s s.last at.net.value) now at.net.value heard.ahead.0 c.in-Some.edge text stands.net heard.ahead.1 heard.ahead.2 heard.ahead.3 line refl) c.in-Err.ensures in
     subst (λ (x : Steps). IsTaken (IsEdgeStep x) (IsNoEdge x) x u old new (Err c.step_error.result)) viewed
     (subst (λ (x : Steps). IsTaken (IsEdgeStep s) (IsNoEdge s) s x old new (Err c.step_error.result)) (sym same) cut)
 
@@ -123,5 +136,5 @@ returns-in-Ok-clause-step g c =
     let old = g.S.Sink.contents c.args.out.now in
     let new = g.S.Sink.contents c.write_edge.new.out in
     subst (λ (x : Steps). IsTaken (IsEdgeStep x) (IsNoEdge x) x t old new (Ok c.in-Ok.count)) viewed
-    (edge_reported (IsEdgeStep s) (IsNoEdge s) s t at.net.value c.in-Some.edge old new (g.S.Sink.is_stuck c.args.out.now) (g.S.Sink.is_stuck c.write_edge.new.out) c.in-Ok.count
-    (λ text line. ahead_gives s t now at.net.value heard.ahead.0 c.in-Some.edge text stands.net heard.ahead.1 heard.ahead.2 heard.ahead.3 line moved) c.in-Ok.ensures)
+    (edge_reported (IsEdgeStep s) (IsNoEdge s) s t here.input.form at.net.value c.in-Some.edge old new (g.S.Sink.is_stuck c.args.out.now) (g.S.Sink.is_stuck c.write_edge.new.out) c.in-Ok.count
+    refl (λ text line. ahead_gives s t now at.net.value heard.ahead.0 c.in-Some.edge text stands.net heard.ahead.1 heard.ahead.2 heard.ahead.3 line moved) c.in-Ok.ensures)

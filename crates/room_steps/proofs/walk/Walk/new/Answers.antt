@@ -1,4 +1,4 @@
-use Rattle.std.proofs.Common.{◌∙◌, ℕ, List, Option, ap, sym, subst, Vec, Global}
+use Rattle.std.proofs.Common.{◌∙◌, ℕ, List, Option, ap, arith, sym, subst, Vec, Global}
 use Rattle.std.specs.Option.{option_map}
 use Rattle.edid_core.specs.declared.edid.Edid.{Edid}
 use Rattle.room_script.specs.Script.{course_of}
@@ -17,7 +17,7 @@ invariant_of-result c =
     let last = c.in_ok-last.ensures in
     let point = starts_at script.events c.in_ok-last.last (first_net c.args.topology.tree script.pulses) (last.0 ∙ ap (first_net c.args.topology.tree) c.deref.ensures.value) last.1 last.2 in (
       has_address bytes edid root,
-      subst (IsReady script.end) (sym point) (ready_start c.args.topology.tree script c.requires.some c.requires.script),
+      subst (IsReady script.end) (sym point) (ready_start c.args.topology.tree script c.requires.some (omega (arith, c.count-count.ensures.value, c.count-count.ensures.fits)) c.requires.script),
       tt,
       tt,
     )
@@ -30,4 +30,4 @@ returns c =
     let script = course_of c.args.script in
     let last = c.in_ok-last.ensures in
     let point = starts_at script.events c.in_ok-last.last (first_net c.args.topology.tree script.pulses) (last.0 ∙ ap (first_net c.args.topology.tree) c.deref.ensures.value) last.1 last.2 in
-    (edid, root, ap (stepper_at (record { edid = edid; events = script.events; end = script.end })) point)
+    (edid, root, ap (stepper_at (record { form = c.args.form; edid = edid; events = script.events; end = script.end })) point)

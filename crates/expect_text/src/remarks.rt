@@ -1,0 +1,45 @@
+//! How remarks of an audit are called.
+ghost use Rattle.std.specs.Prelude.{◌≡◌};
+ghost use Rattle.expect_text.specs.Remarks.{is_called, is_remark_called};
+
+use crate::pattern::fits;
+use audit_notes::NoteKind;
+use json_trace::word;
+
+/// The kinds of remarks.
+const REMARKS: &[NoteKind] = &[
+    NoteKind::NoAnswer,
+    NoteKind::LateAnswer,
+    NoteKind::Free,
+    NoteKind::StartLow,
+    NoteKind::StartTotal,
+    NoteKind::BitLow,
+    NoteKind::BitTotal,
+    NoteKind::LowDrive,
+    NoteKind::DriveWithin,
+    NoteKind::Unfinished,
+    NoteKind::LastAttempt,
+    NoteKind::Receivers,
+    NoteKind::Operands,
+];
+
+// Whether one of these kinds is called so.
+fn is_called(name: &[u8], kinds: &[NoteKind]) -> bool
+    ensures { result ≡ is_called name.now kinds.now }
+{
+    let mut rest = kinds;
+    'kinds: while let [kind, others @ ..] = rest {
+        if fits(name, kind.name().as_bytes()) {
+            return true;
+        }
+        rest = others;
+    }
+    false
+}
+
+/// Whether the first word of a pattern is met by what some kind of remarks is called.
+pub fn is_remark_called(pattern: &[u8]) -> bool
+    ensures { result ≡ is_remark_called pattern.now }
+{
+    is_called(word(pattern), REMARKS)
+}

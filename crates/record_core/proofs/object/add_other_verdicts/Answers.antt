@@ -1,0 +1,5 @@
+use Rattle.text_core.proofs.Adding.{then}
+use Rattle.record_core.proofs.object.add_other_verdicts.Goals as goal
+
+pub returns : goal.returns
+returns g c = then _ _ _ _ _ c.add_more_verdicts.ensures c.add.ensures
