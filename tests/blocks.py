@@ -678,6 +678,24 @@ BASE = [
     (FOUR, 126, "", "126 7 0 1 - Extension Block Count N |\n"),
 ]
 
+# Tags of display descriptors, and the names of their parts (E-EDID 1.4, table 3.23). A tag from 00 to 0F is the maker's own, and one
+# from 11 to F6 is reserved.
+DESCRIPTORS = """ff Display Descriptor, text
+fe Display Descriptor, text
+fd Display Range Limits
+fc Display Descriptor, text
+fb Color Point Data
+fa Standard Timing Identifications
+f9 Display Color Management Data
+f8 CVT 3 Byte Timing Codes
+f7 Established Timings III
+f6 Display Descriptor
+11 Display Descriptor
+10 Dummy Descriptor
+0f Display Descriptor
+00 Display Descriptor
+"""
+
 # Parts of blocks of 128 bytes: the number of the block, the first byte, how many it has, and the name.
 PARTS = """0 0 8 Header
 0 8 10 Vendor & Product Identification
@@ -778,6 +796,17 @@ def base_fails(program):
         yield got == wanted or "%s byte %d %s: %s, and it is %s %s" % (name, at, digits, wanted, got, err)
 
 
+def descriptors_fail(program):
+    """Display descriptors whose part has another name."""
+    for line in DESCRIPTORS.splitlines():
+        tag, name = line.split(" ", 1)
+        base = bytearray(example(FOUR))
+        base[90:108] = bytes.fromhex("000000%s00" % tag) + bytes(13)
+        objects, err = objects_of(program, summed(bytes(base[:128])) + bytes(base[128:]))
+        names = [it["name"] for it in objects if it["type"] == "part" and (it["block"], it["byte"]) == (0, 90)]
+        yield names == [name] or "descriptor %s: %s, and it is %s %s" % (tag, name, names, err)
+
+
 def parts_fail(program):
     """The parts of a monitor's EDID, and an extension that is none of CTA-861."""
     data = example(FOUR)
@@ -807,7 +836,7 @@ def bits_fail(program):
 def main():
     passed, failed = 0, []
     for program in programs():
-        for fails in (names_fail, fields_fail, blocks_fail, base_fails, parts_fail, bits_fail):
+        for fails in (names_fail, fields_fail, blocks_fail, base_fails, descriptors_fail, parts_fail, bits_fail):
             for it in fails(program):
                 passed += it is True
                 if it is not True:

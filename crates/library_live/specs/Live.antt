@@ -56,7 +56,7 @@ abbrev pub IsSaid : Session → List ℕ → Session → List ℕ → Type 0
 IsSaid s line t text = (kept : List ℕ) × (reported : List ℕ) × IsLine s line kept reported text t
 
 abbrev pub IsLineHeard : Talk → List ℕ → Talk → Result Unit LineFault → Type 0
-IsLineHeard s line t (Ok done) = IsSaid s.live line t.live (held_bytes t.said)
+IsLineHeard s line t (Ok done) = (is_fit line ≡ true) × IsSaid s.live line t.live (held_bytes t.said)
 IsLineHeard s line t (Err faults.Closed) = IsSome s.live.notes.end × (t ≡ s)
 IsLineHeard s line t (Err faults.Line) = (s.live.notes.end ≡ None) × (is_fit line ≡ false) × (t ≡ s)
 IsLineHeard s line t (Err faults.Memory) = Unit {0}
@@ -85,7 +85,7 @@ IsLineFault (Some s) line after faults.Memory = after ≡ None
 
 abbrev pub AnswersLine : List ℕ → Option Talk → Option Talk → List ℕ → List ℕ → Answer → Type 0
 AnswersLine line before after old new answer =
-    ((s : Talk) × (t : Talk) × (before ≡ Some s) × IsSaid s.live line t.live (held_bytes t.said) × (after ≡ Some t) × IsPut (held_bytes t.said) old new answer)
+    ((s : Talk) × (t : Talk) × (before ≡ Some s) × (is_fit line ≡ true) × IsSaid s.live line t.live (held_bytes t.said) × (after ≡ Some t) × IsPut (held_bytes t.said) old new answer)
     ⊎ ((fault : LineFault) × IsLineFault before line after fault × IsRefused (fault_code fault) 0 old new answer)
 
 -- what was said last is put once more

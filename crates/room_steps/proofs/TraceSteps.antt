@@ -1,15 +1,25 @@
 -- What the steps of a text write of rounds stands in the run's trace.
-use Rattle.std.proofs.Common.{◌≡◌, ℕ, zero, suc, ◌+◌, ◌-◌, ◌⊎◌, inl, inr, false, List, [], ◌∷◌, ◌++◌, codes, Option, Some, None, ap, ap₂, ◌∙◌, sym, refl, subst, arith, append_assoc, append-nil}
+use Rattle.std.proofs.Common.{◌≡◌, ℕ, zero, suc, ◌+◌, ◌-◌, ◌⊎◌, inl, inr, false, List, [], ◌∷◌, ◌++◌, codes, Option, Some, None, Result, Ok, ap, ap₂, ◌∙◌, sym, refl, subst, arith, append_assoc, append-nil}
 use Rattle.std.specs.List.{flat_map, repeat}
 use Rattle.std.proofs.lemmas.List.{append_cancel_left}
 use Rattle.line_rounds.specs.declared.Outcome.{Outcome}
+use Rattle.edid_core.specs.declared.edid.Edid.{Edid}
+use Rattle.edid_core.specs.Root.{IsRoot}
+use Rattle.edid_core.proofs.OneEdid.{one_edid}
+use Rattle.text_core.specs.declared.at.At.{At}
+use Rattle.room_script.specs.Topology.{Plan, topology_of}
+use Rattle.room_script.specs.declared.topology.TopologyCause.{TopologyCause}
+use Rattle.room_script.specs.Script.{Course, IsScriptRead}
+use Rattle.room_script.specs.declared.script.ScriptCause.{ScriptCause}
+use Rattle.room_script.proofs.OneReading.{one_script}
 use Rattle.room_net.specs.State.{NetState, first_net}
 use Rattle.room_run.specs.declared.run.Totals.{Totals}
 use Rattle.room_run.specs.declared.run.Turn.TheVariants.{Stop, Round as RoundTurn}
+use Rattle.room_run.specs.declared.run.Reporting.TheVariants.{Objects}
 use Rattle.record_core.specs.declared.cell.Form.{Form}
 use Rattle.record_core.specs.declared.cell.Form.TheVariants.{Text, Json}
 use Rattle.room_run.specs.Run.{IsRunText, start}
-use Rattle.room_run.proofs.Accepted.{one_text_of_objects, one_trace_of}
+use Rattle.room_run.proofs.Accepted.{one_trace_of}
 use Rattle.room_run.proofs.Turns.{one_run_text}
 use Rattle.room_step_text.specs.declared.break_at.Break.{Break}
 use Rattle.room_step_text.specs.declared.commands.StepCommand.{StepCommand}
@@ -244,12 +254,32 @@ first_rounds run net count text whole totals trace a =
       begins = front.1;
     }
 
+-- texts spell one plan, one course and one EDID
+same_plan : (p q : Plan) (r : Result Plan (At TopologyCause)) → r ≡ Ok p → r ≡ Ok q → p ≡ q
+same_plan p q r a b = cc
+
+same_course : (c d : Course) (r : Result Course (At ScriptCause)) → r ≡ Ok c → r ≡ Ok d → c ≡ d
+same_course c d r a b = cc
+
+same_edid : (bytes : Option (List ℕ)) (a b : Option Edid) → IsRoot bytes a → IsRoot bytes b → a ≡ b
+same_edid None a b r s = r ∙ sym s
+same_edid (Some bytes) None b r s = absurd r
+same_edid (Some bytes) (Some a) None r s = absurd s
+same_edid (Some bytes) (Some a) (Some b) r s = ap Some (one_edid a b (r.0 ∙ sym s.0))
+
 -- the trace of the run that a stepper begins, or its objects
 told_as : (form : Form) (topology script steps whole : List ℕ) (totals : Totals) (commands : List StepCommand) (first : Steps) → IsToldOf form topology script whole totals
     → (s : AreSteps form topology script steps commands first)
     → IsRunText (reporting_by form s.edid) s.course.end (start (first_net s.plan.tree s.course.pulses) s.course.events) whole totals
 told_as Text topology script steps whole totals commands first trace s = one_trace_of topology script whole totals s.plan s.course s.edid s.accepted.plan_is s.accepted.course_is s.root trace
-told_as Json topology script steps whole totals commands first objects s = one_text_of_objects false topology script whole totals s.plan s.course s.edid s.accepted.plan_is s.accepted.course_is s.root objects
+told_as Json topology script steps whole totals commands first w s =
+    let plan : w.plan ≡ s.plan = same_plan w.plan s.plan (topology_of topology) w.accepted.plan_is s.accepted.plan_is in
+    let read : IsScriptRead s.plan.tree script (Ok w.course) = subst (λ (p : Plan). IsScriptRead p.tree script (Ok w.course)) plan w.accepted.course_is in
+    let course : w.course ≡ s.course = same_course w.course s.course (Ok w.course) refl (one_script s.plan.tree script s.course (Ok w.course) s.accepted.course_is read) in
+    let edid : w.edid ≡ s.edid = same_edid s.plan.edid w.edid s.edid (subst (λ (p : Plan). IsRoot p.edid w.edid) plan w.root) s.root in
+    subst (λ (e : Option Edid). IsRunText (Objects e None) s.course.end (start (first_net s.plan.tree s.course.pulses) s.course.events) whole totals) edid
+    (subst (λ (c : Course). IsRunText (Objects w.edid None) c.end (start (first_net s.plan.tree c.pulses) c.events) whole totals) course
+    (subst (λ (p : Plan). IsRunText (Objects w.edid None) w.course.end (start (first_net p.tree w.course.pulses) w.course.events) whole totals) plan w.objects))
 
 trace_of : (form : Form) (topology script steps text whole : List ℕ) (totals : Totals) → IsToldOf form topology script whole totals → (p : AreStepsOf form topology script steps text)
     → IsRunText (reporting_of p.first.run) p.first.run.end (start p.first.last.net p.first.run.events) whole totals

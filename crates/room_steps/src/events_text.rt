@@ -50,7 +50,7 @@ impl<'a, 'e, S: Sink> Reporter for EventsText<'a, 'e, S> {
 
     ghost goes_on = { λ r. not r.trace.text.failed };
 
-    #[tactic(auto, using(room_run::proofs::Addressed::has_address))]
+    #[tactic(auto, using(crate::proofs::Told::has_address))]
     fn event<W>(&mut self, applied: &AppliedEvent<'_>, net: &Net<W>) {
         let form = self.form;
         let edid = self.trace.passed.edid;
