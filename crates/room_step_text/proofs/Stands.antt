@@ -6,12 +6,8 @@ use Rattle.std.specs.List.{flat_map}
 use Rattle.record_core.specs.Cells.{PlainValue, listed, placed_json, placed_text, stand_json, stand_text}
 use Rattle.record_core.specs.Values.{plain}
 use Rattle.record_core.specs.declared.cell.Stand.{Stand}
+use Rattle.record_core.proofs.Plain.{mapped}
 use Rattle.room_step_text.specs.EdgeText.{stand_part, stands_of, stands_value}
-
--- what is made of each of a list that is mapped
-mapped : {X Y : Type 0} (f : Y → List ℕ) (g : X → Y) (xs : List X) → flat_map (λ x. f (g x)) xs ≡ flat_map f (map g xs)
-mapped f g [] = refl
-mapped f g (x ∷ xs) = ap (λ (l : List ℕ). f (g x) ++ l) (mapped f g xs)
 
 abbrev word_of : List ℕ × PlainValue → List ℕ
 word_of p = placed_text p.0 p.1.word
