@@ -117,7 +117,7 @@ window.testing = {
       titles: texts(group, '.lost title'), claims, about: texts(group, 'title.about').join(),
       verdictTitle: texts(group, 'g g > title').join(),
       name: group.getAttribute('aria-label'), heads: [...document.querySelectorAll('#heads g')].map(head => texts(head, 'text')),
-      hints: texts(document, '#heads title'), title: texts(content, 'h2').join(), marks: this.drawn('', 0, row), ...parts,
+      hints: texts(document, '#heads title'), odd: texts(content, 'details .bad'), title: texts(content, 'h2').join(), marks: this.drawn('', 0, row), ...parts,
     };
   },
   /* Where the strip has a row: what a click at its middle selects. */
@@ -592,10 +592,18 @@ def words_are_the_standards(t, b):
     sixteen = [reading(60000 * i, ending="complete", frame=f"{i:x}>f standby", initiator=f"{i:x}", destination="f",
                        bytes=f"{i:x}f36", verdict="ok") for i in range(16)]
     load(b, "\n".join(sixteen))
+    t.same("without the program's sentences", b.js("testing.shown(1).tables.Blocks[0][2]"), "address 0 to all")
+    load(b, "\n".join(sixteen), program("".join(f"{i:x}f36\n" for i in range(16)), "dis", "--meaning", "--json"))
     t.same("the names of addresses", b.js("testing.shown(0).hints"),
            [f"{i:x}, {name}: search for what it sends, and then for what it is sent" for i, name in enumerate(page_values.ADDRESSES)])
     t.same("in sentences", b.js("testing.app.model.rows.map((row, index) => testing.shown(index)).filter(got => got.type === 'round')"
                                 ".map(got => got.tables.Blocks[0][2])"), [f"{page_values.in_words(f'{i:x}')} to all" for i in range(16)])
+    decks = [json.dumps({"line": f"state d{deck}", "type": "state", "device": f"d{deck}", "kind": "player", "deck": deck})
+             for deck in page_values.DECKS]
+    load(b, "\n".join([reading(0, ending="silent", bits="0"), *decks]),
+         program("".join(f"401b{deck}\n" for deck in page_values.DECKS), "dis", "--meaning", "--json"))
+    t.same("what decks do", b.js("testing.app.openPanel('devices'), " + TABLE + "[0].find(row => row[0] === 'deck').slice(1)"),
+           list(page_values.DECKS.values()))
     endings = [ending for ending in page_values.ENDINGS]
     load(b, "\n".join(reading(60000 * i, ending=ending, bits="01") for i, ending in enumerate(endings)))
     t.same("the endings", b.js("testing.app.model.rounds.map(o => hdminet.meaningOf(o, testing.app.model))"),
@@ -642,7 +650,7 @@ def round_is_shown(t, what, got, page):
     t.same(f"{what}: parties and times", got["tables"][got["title"]], page.parties())
     t.same(f"{what}: blocks", got["tables"].get("Blocks"), page.blocks())
     widths = got["tables"].get("Widths, in µs")
-    t.same(f"{what}: widths", widths and widths[1:], page.widths())
+    t.same(f"{what}: widths", (widths or [[]])[1:], page.widths())
     t.same(f"{what}: free time", [text for text in got["texts"] if "was high for" in text], [page.free()] if page.free() else [])
     slots = run.wires[0][1].slots(one["begin"], one["close"])
     each = [[str(low), "" if i + 1 == len(slots) else str(total)] for i, (_, low, total) in enumerate(slots)]
@@ -653,6 +661,9 @@ def round_is_shown(t, what, got, page):
         names = ["start", *(f"block {i // 10 + 1} {parts[i % 10]}" for i in range(len(slots) - 1))]
         bits = ["", *("0" if low > page_values.SAMPLE else "1" for _, low, _ in slots[1:])]
         t.same(f"{what}: bits", [row[:2] for row in shown[1:]], [list(pair) for pair in zip(names, bits)])
+
+    lows = [str(remark["width"]) for remark in remarks if remark["remark"] in ("start-low", "bit-low")]
+    t.same(f"{what}: slots that are marked", got["odd"], lows if shown else [])
 
     def said(below):
         return [one["line"].strip() + (f" (CEC {one['section']})" if one["section"] else "") for one in below]
@@ -1874,6 +1885,11 @@ ALL = [sources_are_plain, verdicts_are_drawn, colours_differ, retries_are_folded
        long_runs_are_fast]
 
 
+def work(browser):
+    """How many seconds of a processor the tests have taken so far: they themselves, what they ran, and the browser."""
+    return sum(os.times()[:4]) + browser.work()
+
+
 def main():
     signal.signal(signal.SIGTERM, lambda *_: sys.exit(1))
     tests = Tests()
@@ -1884,7 +1900,7 @@ def main():
         for one in ALL:
             if wanted and one.__name__ not in wanted:
                 continue
-            began = time.monotonic()
+            began, worked = time.monotonic(), work(browser)
             try:
                 one(tests, browser)
                 if one not in (hostile_inputs_are_harmless, live_page_runs, live_server_is_careful, live_bytes_are_run):
@@ -1892,7 +1908,8 @@ def main():
             except Exception as fault:  # a test that breaks off has failed, and the next ones go on
                 tests.holds(one.__name__, False, f"{type(fault).__name__}: {fault}")
             if os.environ.get("HDMINET_TIMES"):
-                print(f"{one.__name__}: {time.monotonic() - began:.1f} s")
+                took = f"{time.monotonic() - began:.1f} s, {work(browser) - worked:.1f} s of a processor"
+                print(f"{one.__name__}: {took}", flush=True)
     finally:
         browser.close()
     print(f"page: {tests.passed} passed, {tests.failed} failed")

@@ -5,7 +5,7 @@
 import { tieAnswers } from './answers.js';
 import { edidOf } from './edid.js';
 import { asList, asText, kindOf, lowerBound, readBytes, readDump, readEdges, readFindings, readObjects } from './texts.js';
-import { readRoom, readSentences, smoothed, turned } from './texts.js';
+import { readRoom, smoothed, turned } from './texts.js';
 import { addressName } from './words.js';
 
 /* The logical addresses that each kind polls, by unit (docs/behaviour.md). A combo has two units. */
@@ -24,8 +24,8 @@ export const isWave = text => ['dump', 'edges'].includes(kindOf(text));
 export function build(texts) {
   const model = {
     title: '', objects: [], tests: [], stretches: [], meanings: [], faults: [], lanes: [], rows: [], rounds: [], states: [],
-    ports: [], events: [], sentences: new Map(), names: new Map(), wave: null, room: null, findings: [], bytes: [], parts: [],
-    edid: null, changes: [], ofAll: [], hasAudit: false, isCapture: false, end: 1,
+    ports: [], events: [], sentences: new Map(), names: new Map(), addresses: new Map(), decks: new Map(), wave: null,
+    room: null, findings: [], bytes: [], parts: [], edid: null, changes: [], ofAll: [], hasAudit: false, isCapture: false, end: 1,
   };
   const waves = [];
   for (const one of texts) {
@@ -34,7 +34,6 @@ export function build(texts) {
     else if (kind === 'dump' || kind === 'edges') waves.push(one);
     else if (kind === 'room') model.room = readRoom(one.text);
     else if (kind === 'meaning') model.meanings.push(one);
-    else if (kind === 'sentences') readSentences(one.text, model.sentences);
     else if (kind === 'findings') readFindings(one.text, model);
     else if (kind === 'bytes') model.bytes = readBytes(one.text);
     else if (kind === 'plain') model.faults.push(`${one.name}: a plain text of the program; give the flag --json`);
@@ -48,7 +47,6 @@ export function build(texts) {
   if (!model.isCapture) addAudit(model);
   addLanes(model);
   addRows(model);
-  for (const { bytes, frame } of model.rounds) if (bytes.length > 2) model.names.set(bytes.slice(2, 4), frame.split(' ')[1]);
   model.rounds.sort((a, b) => a.begin - b.begin);
   tieAnswers(model);
   model.end = Math.max(...model.rows.slice(-3).map(row => row.until || row.at), 1);
@@ -67,8 +65,8 @@ function addAudit(model) {
   if (readings.size === 0) return;
   model.objects = model.objects.filter(o => o.type !== 'reading');
   for (const o of model.objects) {
-    const { remarks, notes } = (o.type === 'round' && readings.get(key(o))) || {};
-    if (remarks) [o.remarks, o.notes] = [remarks, notes];
+    const { remarks, notes, widths } = (o.type === 'round' && readings.get(key(o))) || {};
+    if (remarks) [o.remarks, o.notes, o.widths] = [remarks, notes, widths];
   }
 }
 
@@ -111,7 +109,7 @@ function addLanes(model) {
   if (model.isCapture) {
     const seen = new Set(model.objects.map(senderOf).filter(Boolean));
     for (const o of model.objects) if (/^[0-9a-e]$/.test(o.destination || '') && o.verdict === 'ack') seen.add(o.destination);
-    for (const address of [...seen].sort()) add(address, addressName(address));
+    for (const address of [...seen].sort()) add(address, addressName(model, address).replace(' Device ', ' '));
     return;
   }
   for (const state of model.states) add(state.device, state.kind);

@@ -9,7 +9,7 @@ import { addWave, build, isWave } from './model.js';
 import { commands, drawSweep, help, PANELS } from './panels.js';
 import { acknowledgersOf, slotsOf } from './slots.js';
 import { nearest, Strip, timeInAddress } from './strip.js';
-import { asText, isAudit, isOfBytes, kindOf, readDump } from './texts.js';
+import { asText, isAudit, isOfBytes, isOfFrames, kindOf, readDump } from './texts.js';
 import { meaningOf } from './words.js';
 import { Wave, wavesHeight } from './wave.js';
 
@@ -246,13 +246,14 @@ class App {
     if (texts.length > 0) await this.loadGiven(texts);
   }
   /* Objects are a new run, and bytes another EDID where there is one. Anything else is added to what is there, also the audit of
-     a run's line and the fields of an EDID. */
+     a run's line, what frames mean and the fields of an EDID. */
   loadGiven(texts) {
     this.data = null;
     this.reading = 0;
     this.showBanner();
     const isRun = this.model.rounds.length > 0 && !this.model.isCapture;
-    const isMore = ({ text }) => kindOf(text) !== 'objects' || isOfBytes(text) || (isRun && isAudit(text));
+    const isAdded = text => kindOf(text) !== 'objects' || isOfBytes(text) || isOfFrames(text);
+    const isMore = ({ text }) => isAdded(text) || (isRun && isAudit(text));
     const isAnother = this.model.bytes.length > 0 && texts.some(({ text }) => kindOf(text) === 'bytes');
     return this.load(texts, this.texts.length > 0 && !isAnother && texts.every(isMore));
   }
