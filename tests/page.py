@@ -1,9 +1,11 @@
 #!/usr/bin/env python3
-"""page.py BROWSER ROOM: the tests of tests/page.sh. ROOM is a folder for what they make; HDMINET names the program."""
+"""page.py BROWSER ROOM [TEST..]: the tests of tests/page.sh. ROOM is a folder for what they make; HDMINET names the program, and
+HDMINET_BROWSERS how many browsers run at once. With HDMINET_TIMES each test says what time it has taken."""
 import http.client
 import importlib.machinery
 import importlib.util
 import json
+import multiprocessing
 import os
 import random
 import re
@@ -11,6 +13,7 @@ import signal
 import socket
 import subprocess
 import sys
+import tempfile
 import time
 
 import page_edids
@@ -130,6 +133,17 @@ window.testing = {
     strip.dispatchEvent(new MouseEvent('click', { clientX: x, clientY: box.y + 10, bubbles: true }));
     return [app.selected.at, (2 * app.model.end) / box.width];
   },
+  /* What the wave has of some rounds, by their lines: its texts, where its ruler's times stand, what it reads at some instants. */
+  waves(asked) {
+    const { wave, model } = this.app;
+    return asked.map(([line, instants]) => {
+      wave.showRound(this.rowOf(line).o);
+      wave.cursors = [null, null];
+      const texts = this.written(() => wave.draw());
+      const marks = texts.filter(([text]) => /^\d+\.\d{6}$/.test(text)).map(([text, x]) => [x, wave.x(Number(text) * 1e6) + 3]);
+      return { words: texts.map(([text]) => text), marks, read: instants.map(at => wave.readingAt(at, model.wave.line)) };
+    });
+  },
   /* The texts that a canvas draws. */
   written(draw) {
     const plain = CanvasRenderingContext2D.prototype.fillText;
@@ -184,11 +198,29 @@ def written(name, text):
     return path
 
 
+def page_tool():
+    """tools/page as a module, read anew."""
+    loader = importlib.machinery.SourceFileLoader("page", os.path.join(TOP, "tools/page"))
+    tool = importlib.util.module_from_spec(importlib.util.spec_from_loader("page", loader))
+    loader.exec_module(tool)
+    return tool
+
+
+TOOL = page_tool()
+MADE = {}
+
+
 def page_of(path, *flags):
-    """The page of a file, as tools/page makes it."""
-    page = os.path.join(ROOM, f"{os.path.basename(path)}.html")
-    subprocess.run([os.path.join(TOP, "tools/page"), path, "-o", page, *flags], check=True)
-    return page
+    """The page of a file, as tools/page makes it: of the same text once."""
+    with open(path, "rb") as file:
+        key = (path, file.read(), flags)
+    if key not in MADE:
+        MADE[key] = os.path.join(ROOM, f"{len(MADE)}-{os.path.basename(path)}.html")
+        try:
+            TOOL.main([path, "-o", MADE[key], *flags])
+        except SystemExit as fault:
+            raise RuntimeError(f"tools/page {path}: {fault}") from None
+    return MADE[key]
 
 
 def show(b, path, *flags):
@@ -555,28 +587,25 @@ def reports_are_shown(t, b):
 def wave_is_shown(t, b, name, run):
     """What the wave says: each frame with its verdict, the bits of some, the ruler, and what is under the mouse."""
     line = run.wires[0][1]
-    for one in run.rounds[::9]:
-        number = json.dumps(one["line"])
-        b.js(f"testing.app.wave.showRound(testing.rowOf({number}).o), testing.app.wave.cursors = [null, null]")
-        texts = b.js("testing.written(() => testing.app.wave.draw())")
-        words = [text for text, _, _ in texts]
+    some = run.rounds[::9]
+    slots = [line.slots(one["begin"], one["close"]) for one in some]
+    asked = [[one["line"], [fall + 1 for fall, _, _ in falls[:12]]] for one, falls in zip(some, slots)]
+    for one, falls, got in zip(some, slots, b.js(f"testing.waves({json.dumps(asked)})")):
+        words, marks = got["words"], got["marks"]
         label = f"{one['frame']} {one['verdict']}" if one["ending"] == "complete" else page_values.label(one)
         is_there = label in words or any(label.startswith(word[:-1]) and word.endswith("…") for word in words)
         t.holds(f"{name}: the frame {label}", is_there, words)
-        marks = [(text, x) for text, x, y in texts if re.match(r"\d+\.\d{6}$", text)]
-        places = b.js(f"{json.dumps([float(text) * 1e6 for text, _ in marks])}.map(at => testing.app.wave.x(at) + 3)")
-        t.holds(f"{name}: the ruler", marks and all(abs(x - place) < 0.01 for (_, x), place in zip(marks, places)), [marks, places])
+        t.holds(f"{name}: the ruler", marks and all(abs(x - place) < 0.01 for x, place in marks), marks)
         if one["ending"] != "complete":
             continue
-        for slot, (fall, low, total) in list(enumerate(line.slots(one["begin"], one["close"])))[:12]:
-            read = b.js(f"testing.app.wave.readingAt({fall + 1}, testing.app.model.wave.line)")
+        for slot, ((fall, low, total), read) in enumerate(zip(falls, got["read"])):
             kind = "start low" if slot == 0 else "0 low" if low > page_values.SAMPLE else "1 low"
             least, most = page_values.WINDOWS[kind]
             parts = ["bit 1", "bit 2", "bit 3", "bit 4", "bit 5", "bit 6", "bit 7", "bit 8", "EOM", "ACK"]
             place = f"block {(slot + 9) // 10} {parts[(slot - 1) % 10]}"
             where = "start bit" if slot == 0 else f"slot {slot}: {place} = {int(kind == '1 low')}"
             window = page_values.WINDOWS["start total" if slot == 0 else "bit total"]
-            is_last = slot + 1 == len(line.slots(one["begin"], one["close"]))
+            is_last = slot + 1 == len(falls)
             whole = "" if is_last else f", total {total} of {window[0]}..{window[1]}"
             t.same(f"{name}: slot {slot} of {one['line']}", read[:3],
                    [f"{fall + 1} µs", f"CEC low {low} µs, from {fall} to {fall + low}", f"{where}, low {low} of {least}..{most}{whole}"])
@@ -592,7 +621,7 @@ def words_are_the_standards(t, b):
     sixteen = [reading(60000 * i, ending="complete", frame=f"{i:x}>f standby", initiator=f"{i:x}", destination="f",
                        bytes=f"{i:x}f36", verdict="ok") for i in range(16)]
     load(b, "\n".join(sixteen))
-    t.same("without the program's sentences", b.js("testing.shown(1).tables.Blocks[0][2]"), "address 0 to all")
+    t.same("without the program's sentences", b.js("testing.shown(0).tables.Blocks[0][2]"), "address 0 to all")
     load(b, "\n".join(sixteen), program("".join(f"{i:x}f36\n" for i in range(16)), "dis", "--meaning", "--json"))
     t.same("the names of addresses", b.js("testing.shown(0).hints"),
            [f"{i:x}, {name}: search for what it sends, and then for what it is sent" for i, name in enumerate(page_values.ADDRESSES)])
@@ -686,11 +715,9 @@ def event_is_shown(t, what, got, row):
 
 def strip_is_shown(t, b, name, run):
     """A click on the strip goes to the row that is there, and the row's colour is there."""
-    for number, row in enumerate(run.rows):
-        if row["type"] != "round" or number % 5:
-            continue
-        at, pixel = b.js(f"testing.clicked({number})")
-        t.holds(f"{name}: a click on the strip", abs(at - row["begin"]) <= pixel, [at, row])
+    some = [number for number, row in enumerate(run.rows) if row["type"] == "round" and number % 5 == 0]
+    for number, (at, pixel) in zip(some, b.js(f"{json.dumps(some)}.map(number => testing.clicked(number))")):
+        t.holds(f"{name}: a click on the strip", abs(at - run.rows[number]["begin"]) <= pixel, [at, run.rows[number]])
     ink = b.js("""(() => { const { app } = testing; const { model } = app; const strip = app.strip.picture;
       const pen = strip.getContext('2d');
       return model.rows.filter(row => row.type === 'round' && row.until - row.at > model.end / 200).map(row => {
@@ -837,7 +864,7 @@ def searches_find(t, b):
     time.sleep(0.5)
     moment = b.js("location.hash")
     t.same("the moment is in the address", moment, b.js("`#t=${(testing.app.selected.at / 1e6).toFixed(6)}&sel=${testing.app.selected.index}`"))
-    page = os.path.join(ROOM, "living-room-evening.net.html")
+    page = page_of(os.path.join(EXAMPLES, "living-room-evening.net"))
     b.call("Page.navigate", url=f"file://{BARE}")
     b.open(f"{page}#t=0.050700&sel=1")
     t.same("an address with a moment", b.js("hdminet.app.selected.at"), 50700)
@@ -1681,9 +1708,7 @@ def attempts_are_the_audits(t, b):
 def tool_is_imported(t, b):
     """tools/page as a module: the times and levels of captures, and the flags that a line of the program advises, by hand
     (docs/captures.md)."""
-    loader = importlib.machinery.SourceFileLoader("page", os.path.join(TOP, "tools/page"))
-    tool = importlib.util.module_from_spec(importlib.util.spec_from_loader("page", loader))
-    loader.exec_module(tool)
+    tool = page_tool()
     day = tool.csv_time("2026-11-26T16:00:00.060000000+00:00")
     t.same("times", [tool.csv_time("0.012000000"), tool.csv_time("12"), tool.csv_time("-0.5"),
                      tool.csv_time("2026-11-26T16:00:01.5Z") - day, tool.csv_time("2026-11-26T18:00:00.07+02:00") - day],
@@ -1885,35 +1910,82 @@ ALL = [sources_are_plain, verdicts_are_drawn, colours_differ, retries_are_folded
        long_runs_are_fast]
 
 
+# What goes by the time that something takes runs last, alone.
+ALONE = [long_runs_are_fast]
+# What asks a server of its own, or makes the page fail: its faults are its own.
+WITH_FAULTS = [hostile_inputs_are_harmless, live_page_runs, live_server_is_careful, live_bytes_are_run]
+MOST_BROWSERS = 3
+
+
 def work(browser):
     """How many seconds of a processor the tests have taken so far: they themselves, what they ran, and the browser."""
     return sum(os.times()[:4]) + browser.work()
 
 
-def main():
-    signal.signal(signal.SIGTERM, lambda *_: sys.exit(1))
+def run(one, browser):
+    """A test in a browser: how many checks passed and failed."""
     tests = Tests()
-    wanted = sys.argv[3:]
-    subprocess.run([os.path.join(TOP, "tools/page"), "--bare", "-o", BARE], check=True)
+    began, worked = time.monotonic(), work(browser)
+    try:
+        one(tests, browser)
+        if one not in WITH_FAULTS:
+            tests.same(f"{one.__name__}: faults of the page", browser.faults(), [])
+    except Exception as fault:  # a test that breaks off has failed, and the next ones go on
+        tests.holds(one.__name__, False, f"{type(fault).__name__}: {fault}")
+    if os.environ.get("HDMINET_TIMES"):
+        took = f"{time.monotonic() - began:.1f} s, {work(browser) - worked:.1f} s of a processor"
+        print(f"{one.__name__}: {took}", flush=True)
+    return tests.passed, tests.failed
+
+
+def run_some(waiting, told):
+    """Runs tests in a browser and a folder of its own, one after another, as long as one waits."""
+    global ROOM, BARE
+    ROOM = tempfile.mkdtemp(prefix="tests-", dir=ROOM)
+    BARE = os.path.join(ROOM, "bare.html")
+    TOOL.main(["--bare", "-o", BARE])
     browser = Browser(BROWSER)
     try:
-        for one in ALL:
-            if wanted and one.__name__ not in wanted:
-                continue
-            began, worked = time.monotonic(), work(browser)
-            try:
-                one(tests, browser)
-                if one not in (hostile_inputs_are_harmless, live_page_runs, live_server_is_careful, live_bytes_are_run):
-                    tests.same(f"{one.__name__}: faults of the page", browser.faults(), [])
-            except Exception as fault:  # a test that breaks off has failed, and the next ones go on
-                tests.holds(one.__name__, False, f"{type(fault).__name__}: {fault}")
-            if os.environ.get("HDMINET_TIMES"):
-                took = f"{time.monotonic() - began:.1f} s, {work(browser) - worked:.1f} s of a processor"
-                print(f"{one.__name__}: {took}", flush=True)
+        for one in iter(waiting.get, None):
+            told.put(run(ALL[one], browser))
     finally:
         browser.close()
-    print(f"page: {tests.passed} passed, {tests.failed} failed")
-    sys.exit(1 if tests.failed else 0)
+
+
+def run_all(chosen, count):
+    """Runs tests in some browsers at once."""
+    fork = multiprocessing.get_context("fork")
+    waiting, told = fork.SimpleQueue(), fork.SimpleQueue()
+    for one in [*(ALL.index(one) for one in chosen), *[None] * count]:
+        waiting.put(one)
+    browsers = [fork.Process(target=run_some, args=(waiting, told), daemon=True) for _ in range(count)]
+    for one in browsers:
+        one.start()
+    for one in browsers:
+        one.join()
+    found = []
+    while not told.empty():
+        found.append(told.get())
+    if len(found) < len(chosen):
+        print(f"not ok: RuntimeError: {len(chosen) - len(found)} tests have not run to their end")
+        found.append((0, len(chosen) - len(found)))
+    return found
+
+
+def main():
+    signal.signal(signal.SIGTERM, lambda *_: sys.exit(1))
+    sys.stdout.reconfigure(line_buffering=True)
+    wanted = sys.argv[3:]
+    chosen = [one for one in ALL if not wanted or one.__name__ in wanted]
+    # Long ones first
+    first = [values_of_retries, bytes_are_the_programs, bytes_are_shown, live_page_runs, examples_have_pages, advice_is_shown]
+    together = sorted((one for one in chosen if one not in ALONE), key=lambda one: (one not in first, ALL.index(one)))
+    most = int(os.environ.get("HDMINET_BROWSERS") or min(os.cpu_count() or 1, MOST_BROWSERS))
+    found = run_all(together, min(most, len(together))) if together else []
+    found += [result for one in chosen if one in ALONE for result in run_all([one], 1)]
+    passed, failed = (sum(counts) for counts in zip(*found, (0, 0)))
+    print(f"page: {passed} passed, {failed} failed")
+    sys.exit(1 if failed else 0)
 
 
 main()

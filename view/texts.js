@@ -43,7 +43,7 @@ function addHead(object, room) {
   if (type === 'plug') room.plugs.push([device, parent, port]);
 }
 
-/* Takes what the program says of a frame: its sentence, and the names in it of its opcode, of addresses and of what a deck does. */
+/* Takes what the program says of a frame: its sentence, and the names of its opcode, of addresses and of what a deck does. */
 function addMeaning(model, frame, { line, sender, receiver, operand, word }) {
   const { bytes, initiator, destination, opcode, name } = frame;
   model.sentences.set(bytes, line.trim());
