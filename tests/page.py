@@ -21,6 +21,8 @@ import page_values
 from browser import Browser
 from page_inputs import hostile_inputs, long_room, MARKUP, random_room, RETRIES
 
+# How many times as much the tests draw at random.
+MANY = int(os.environ.get("HDMINET_MANY", "1"))
 TOP = os.path.dirname(os.path.dirname(os.path.realpath(__file__)))
 EXAMPLES = os.path.join(TOP, "examples")
 PROGRAM = os.environ["HDMINET"]
@@ -480,6 +482,40 @@ def room_is_shown(t, b, name, run):
             t.same(f"{name}: the room after {row['line']}", cells[1:], [
                 [key.replace("_", " "), *(page_values.state_cell(key, after[device][key], run.opcodes) for device in run.devices)]
                 for key in keys])
+
+
+def states_are_the_sessions(t, b):
+    """At random instants, which no row of the chart begins or ends, each device's state is what a session of `live` says there: of
+    random rooms and of a long one."""
+    draw = random.Random("instants")
+    compared, differ, wanted = 0, [], MANY * 600
+    while compared < wanted:
+        room = long_room(2000) if compared == 0 else random_room(draw)
+        if not program(room, "run", "--json"):
+            continue
+        name = f"instants-{compared}.net"
+        b.open(page_of(written(name, room)))
+        devices = re.findall(r"^device (\S+)", room, re.M)
+        end = int(re.findall(r"^end (\d+)", room, re.M)[-1])
+        count = 4000 if MANY > 1 and compared == 0 else 100 if compared == 0 else 20
+        instants = sorted(draw.sample(range(1, end), count))
+        got = b.js(f"{json.dumps(instants)}.map(at => hdminet.app.model.lanes.map(lane => (now => now && now.state && now.state.line)"
+                   "(hdminet.deviceAt(lane, at - 1))))")
+        head, _, script = room.partition("script\n")
+        timed = [(int(line.split(" ")[1]), 0, line) for line in script.splitlines() if re.match(r"at |pulse ", line)]
+        # Of one instant a session takes what the script has before it is asked
+        asked = "\n".join(line for _, _, line in sorted(
+            [*timed, *((at, 1, "\n".join([f"run to {at}", *(f"show {name}" for name in devices)])) for at in instants)],
+            key=lambda one: one[:2]))
+        told = [line[2:] for line in program(f"{head}script\n{asked}\nend {end}\n", "live").splitlines() if line.startswith("= state ")]
+        t.same(f"{name}: what the session says", len(told), len(devices) * len(instants))
+        found = [state.removeprefix("= ") for states in got for state in states]
+        differ += [(name, one, other) for one, other in zip(found, told) if one != other]
+        compared += len(told)
+    t.same(f"states at {compared} instants of devices", differ[:5], [])
+    t.same("how many differ", len(differ), 0)
+    if MANY > 1:
+        print(f"page: {compared} states at random instants are those of live")
 
 
 def values_of_a_capture(t, b):
@@ -1475,6 +1511,32 @@ def hostile_inputs_are_harmless(t, b):
         t.same(f"hostile: {name}", found, {"thrown": [], "hit": 0, "images": 0})
     load(b, '{"line":"x","type":"later"}\n{"line":"y","type":"later"}\n')
     t.same("objects of a later program", b.js("testing.app.model.faults"), ["2 of the type later, which this page does not know"])
+    objects = program(example("first-path.net"), "run", "--json")
+    cut = objects[:objects.index('"complete","frame":"4>0 image-view-on"')]
+    load(b, cut)
+    t.same("objects that are cut: what is readable, and a note", b.js("(m => [m.rounds.length, m.faults])(testing.app.model)"),
+           [4, [f"line 6 is no object of the program: {cut.splitlines()[5][:60]}"]])
+    report = program(example("wrong-film.test"), "check", "--json")
+    load(b, report.replace('"version":13', '"version":14'))
+    t.same("a report of another version: what is readable, and a note", b.js("(m => [m.tests.length, m.faults])(testing.app.model)"),
+           [3, ["a report of version 14; this page reads version 13"]])
+    load(b, report)
+    t.same("a report of this version", b.js("testing.app.model.faults"), [])
+    limit = b.js("hdminet.LIMITS.text")
+    dump = program(example("first-path.net"), "run", "--edges", "--as", "vcd", "--drives")
+    b.js(f"hdminet.LIMITS.text = {len(objects) - 300}")
+    load(b, objects)
+    t.same("a text that is too long: its begin, and a note", b.js("(m => [m.rounds.length, m.states.length, m.faults])(testing.app.model)"),
+           [6, 1, ["text 0: too long; its begin is shown"]])
+    b.js(f"hdminet.LIMITS.text = {len(dump) // 2}")
+    load(b, dump)
+    t.same("a dump that is too long", b.js("(m => [m.faults, 0 < m.wave.end && m.wave.end < 1500000])(testing.app.model)"),
+           [["text 0: too long; its begin is shown"], True])
+    b.js("hdminet.LIMITS.text = 1000")
+    drop_file(b, "long.jsonl", objects)
+    t.holds("a file that is too long", until(b, "hdminet.app.model.faults.includes('long.jsonl: too long; its begin is shown')", 20),
+            b.js("hdminet.app.model.faults"))
+    b.js(f"hdminet.LIMITS.text = {limit}")
     load(b, "")
     t.holds("an empty file is named", "empty" in b.js("document.getElementById('panel').textContent"))
     load(b, inputs["broken lines"][0])
@@ -1564,6 +1626,13 @@ def dumps_are_read(t, b):
         t.same(f"dump: {name}", b.js(f"hdminet.readDump({json.dumps(text)}).line.changes"), changes)
 
 
+def drop_file(b, name, text):
+    """Drops a file on the page."""
+    file = f"new File([{json.dumps(text)}], {json.dumps(name)})"
+    b.js(f"(async () => {{ const data = new DataTransfer(); data.items.add({file});"
+         "document.dispatchEvent(new DragEvent('drop', { dataTransfer: data, bubbles: true, cancelable: true })); })()")
+
+
 def files_may_be_dropped(t, b):
     """Objects, then a dump, a room and an EDID, one after the other, by drop and by paste."""
     b.open(BARE)
@@ -1571,14 +1640,8 @@ def files_may_be_dropped(t, b):
     room = example("first-path.net")
 
     def drop(name, text):
-        file = f"new File([{json.dumps(text)}], {json.dumps(name)})"
-        b.js(f"(async () => {{ const data = new DataTransfer(); data.items.add({file});"
-             "document.dispatchEvent(new DragEvent('drop', { dataTransfer: data, bubbles: true, cancelable: true }));"
-             "await new Promise(done => setTimeout(done, 100)); })()")
-        for _ in range(100):
-            if b.js(f"testing.app.texts.some(one => one.name === {json.dumps(name)})"):
-                break
-            time.sleep(0.05)
+        drop_file(b, name, text)
+        t.holds(f"dropped: {name} is read", until(b, f"testing.app.texts.some(one => one.name === {json.dumps(name)})", 20))
     there = "(m => [m.rounds.length, !!m.wave, !!m.room, m.meanings.length, m.faults.length])(testing.app.model)"
     with open(os.path.join(EXAMPLES, "lg-oled55b6v.edid"), "rb") as file:
         meaning = subprocess.run([PROGRAM, "edid", "--meaning"], stdin=file, capture_output=True, check=True).stdout.decode()
@@ -1903,7 +1966,7 @@ def sources_are_plain(t, _):
 
 ALL = [sources_are_plain, verdicts_are_drawn, colours_differ, retries_are_folded, wave_is_drawn, other_lines_are_noticed,
        capture_is_drawn, advice_is_shown, attempts_are_the_audits, words_are_the_standards, reports_are_shown, values_of_an_evening,
-       values_of_retries, values_of_a_loose_device, values_of_a_capture, failures_are_drawn, keys_reach_all, searches_find, other_sizes_fit, runs_stand_beside, live_page_runs, live_server_is_careful, mouse_works, hostile_inputs_are_harmless,
+       values_of_retries, values_of_a_loose_device, states_are_the_sessions, values_of_a_capture, failures_are_drawn, keys_reach_all, searches_find, other_sizes_fit, runs_stand_beside, live_page_runs, live_server_is_careful, mouse_works, hostile_inputs_are_harmless,
        inferences_are_the_programs, bytes_are_shown, bytes_are_reached, bytes_fit, bytes_are_the_programs, live_bytes_are_run,
        sentences_are_the_programs, dumps_are_read, tool_is_imported, files_may_be_dropped, pages_are_made,
        examples_have_pages,

@@ -4,7 +4,7 @@
 
 import { tieAnswers } from './answers.js';
 import { edidOf } from './edid.js';
-import { asList, asText, kindOf, lowerBound, readBytes, readDump, readEdges, readFindings, readObjects } from './texts.js';
+import { asList, asText, begun, kindOf, lowerBound, readBytes, readDump, readEdges, readFindings, readObjects } from './texts.js';
 import { readRoom, smoothed, turned } from './texts.js';
 import { addressName } from './words.js';
 
@@ -28,7 +28,8 @@ export function build(texts) {
     room: null, findings: [], bytes: [], parts: [], edid: null, changes: [], ofAll: [], hasAudit: false, isCapture: false, end: 1,
   };
   const waves = [];
-  for (const one of texts) {
+  for (const given of texts) {
+    const one = isWave(given.text) ? given : { ...given, text: begun(given, model.faults) }; // a wave is read below
     const kind = kindOf(one.text);
     if (kind === 'objects') readObjects(one.text, model);
     else if (kind === 'dump' || kind === 'edges') waves.push(one);
@@ -71,8 +72,10 @@ function addAudit(model) {
 }
 
 /* Adds a wave, which is the longest of the texts to read; `how` says by which flags the capture was read. */
-export function addWave(model, { name, text, how }) {
+export function addWave(model, one) {
+  const { name, how } = one;
   const { signal, glitch, invert } = how || {};
+  const text = begun(one, model.faults);
   const wave = kindOf(text) === 'dump' ? readDump(text, signal) : readEdges(text);
   if (!wave) {
     model.faults.push(`${name}: a dump without a wire or a time scale`);

@@ -1,6 +1,15 @@
 // The texts that the program writes and reads, from characters to plain values. Nothing here draws, and nothing trusts its
 // input: each field is brought to its type in one place, and a line that is none of the program's is counted and named.
 
+/* How long a text may be, in characters. */
+export const LIMITS = { text: 1 << 28 };
+/* A text, or the lines at the begin of one that is too long, which is noted. */
+export function begun({ name, text, isCut }, faults) {
+  const isLong = text.length > LIMITS.text;
+  if (isLong || isCut) faults.push(`${name}: too long; its begin is shown`);
+  return isLong ? text.slice(0, text.lastIndexOf('\n', LIMITS.text) + 1) : text;
+}
+
 const MOST_OF_EDID = 4 * 128; // bytes
 const isHexOfEdid = text =>
   text.length < 4 * MOST_OF_EDID && /^\s*00\s*(ff\s*){6}00/i.test(text) && /^[0-9a-f]*$/i.test(text.replace(/\s/g, ''));
@@ -114,6 +123,7 @@ function addTold(object, model, last) {
   }
 }
 
+const VERSION = 13; // of a report
 /* Objects of JSON, one a line (docs/formats.md, "Objects of JSON"), put into a model. */
 export function readObjects(text, model) {
   let inReport = false; // below a test stand the rounds that it saw, up to the object `trace`
@@ -136,6 +146,8 @@ export function readObjects(text, model) {
       model.faults.push(`line ${index + 1} is no object of the program: ${line.slice(0, 60)}`);
     } else if (object.type === 'version') {
       inReport = true;
+      const { version } = object;
+      if (version !== VERSION) model.faults.push(`a report of version ${version}; this page reads version ${VERSION}`);
     } else if (object.type === 'trace') {
       inReport = false;
     } else if (object.type === 'test') {
@@ -199,6 +211,8 @@ function cleaned(o) {
     }
     case 'end':
       return { type, line, at: asNumber(o.at) };
+    case 'version':
+      return { type, line, version: asNumber(o.version) };
     case 'test': {
       const [text, refused] = [asText(o.expectation), asText(o.refused)];
       const [test, scriptLine] = [asNumber(o.test), asNumber(o.script_line)];
@@ -251,7 +265,6 @@ function cleaned(o) {
     case 'pulse':
     case 'pull':
     case 'pin':
-    case 'version':
     case 'trace':
     case 'plan':
     case 'other':
