@@ -318,6 +318,10 @@ def retries_are_folded(t, b):
     t.same("lost addresses", [lost["label"], lost["claims"]], ["unplug amp", "–,–,–"])
     t.holds("and what to look at says so",
             "p1 loses the address 4: unplug amp" in b.js("testing.app.openPanel('look'), testing.panel()"))
+    boxes = b.js("(group => ['.label', '.lost', '.warn'].map(one => group.querySelector(one).getBoundingClientRect().toJSON()))"
+                 "(testing.drawn(' short 0') && document.getElementById(`row${testing.rowOf(' short 0').index}`))")
+    meet = [one for one in boxes[1:] if one["left"] < boxes[0]["right"] and boxes[0]["left"] < one["right"]]
+    t.same("the mark of a loser is clear of the text of a broken round", meet, [])
     race = drawn(b, "4>0 image-view-on ack by p1 out p2@1")
     t.same("a lost arbitration", [race["senders"], race["losers"], race["outs"]], [["p1"], ["p2"], ["out @1"]])
 
@@ -1431,6 +1435,8 @@ def other_sizes_fit(t, b):
         t.holds("the panel stands below", boxes[1][1] > boxes[0][1] + 200 and boxes[1][2] > 350, boxes)
         t.holds("nothing is wider", b.js("document.documentElement.scrollWidth") <= 390)
         b.open(BARE)
+        shown = b.js("['aside', '#chart'].map(one => getComputedStyle(document.querySelector(one)).display)")
+        t.same("an empty page has no panel there", shown, ["none", "block"])
         help_at = b.js("document.querySelector('.empty h2').getBoundingClientRect().y")
         t.holds("the help stands on the first screen", 0 < help_at < 500, help_at)
     finally:

@@ -383,7 +383,10 @@ class RowPicture {
   /* A broken round stops in the open, and its text stands behind it. */
   drawBroken(x) {
     const { row, y, chart } = this;
-    const isLeft = x + 62 + widthOf(row.text) + 8 > chart.laneEnd;
+    const wide = 62 + widthOf(row.text) + 8;
+    const losers = row.losers.map(loser => this.x(loser.lane) - x);
+    const isClear = way => !losers.some(at => at * way > 0 && at * way < wide);
+    const isLeft = x + wide > chart.laneEnd || (!isClear(1) && isClear(-1) && x - wide > LEFT - MARGIN);
     const way = isLeft ? -1 : 1;
     const end = x + way * 56;
     this.path('arrow', `M${x} ${y}H${end - way * 14}l${3 * way} -6l${4 * way} 12l${4 * way} -12l${3 * way} 6`);

@@ -194,6 +194,7 @@ class App {
     this.map.show(model.edid);
     const { isOfEdid } = this;
     document.body.classList.toggle('edid', isOfEdid);
+    document.body.classList.toggle('bare', texts.length === 0);
     byId('chart').hidden = isOfEdid;
     byId('bytes').hidden = !isOfEdid;
     byId('bytes').replaceChildren(...(isOfEdid ? [this.map.root] : []));
