@@ -1,6 +1,8 @@
 #!/usr/bin/env python3
 """page.py BROWSER ROOM [TEST..]: the tests of tests/page.sh. ROOM is a folder for what they make; HDMINET names the program, and
-HDMINET_BROWSERS how many browsers run at once. With HDMINET_TIMES each test says what time it has taken."""
+HDMINET_BROWSERS how many browsers run at once. With HDMINET_TIMES each test says what time it has taken, and with HDMINET_MANY
+those that draw at random draw 1,000 edits and 30,000 states.
+"""
 import http.client
 import importlib.machinery
 import importlib.util
@@ -21,8 +23,9 @@ import page_values
 from browser import Browser
 from page_inputs import hostile_inputs, long_room, MARKUP, random_room, RETRIES
 
-# How many times as much the tests draw at random.
-MANY = int(os.environ.get("HDMINET_MANY", "1"))
+# Whether tests draw as much at random as the page was once looked at with, which takes some minutes.
+IS_MANY = bool(os.environ.get("HDMINET_MANY"))
+EDITS, STATES = (1000, 30000) if IS_MANY else (12, 600)
 TOP = os.path.dirname(os.path.dirname(os.path.realpath(__file__)))
 EXAMPLES = os.path.join(TOP, "examples")
 PROGRAM = os.environ["HDMINET"]
@@ -492,8 +495,8 @@ def states_are_the_sessions(t, b):
     """At random instants, which no row of the chart begins or ends, each device's state is what a session of `live` says there: of
     random rooms and of a long one."""
     draw = random.Random("instants")
-    compared, differ, wanted = 0, [], MANY * 600
-    while compared < wanted:
+    compared, differ = 0, []
+    while compared < STATES:
         room = long_room(2000) if compared == 0 else random_room(draw)
         if not program(room, "run", "--json"):
             continue
@@ -501,7 +504,7 @@ def states_are_the_sessions(t, b):
         b.open(page_of(written(name, room)))
         devices = re.findall(r"^device (\S+)", room, re.M)
         end = int(re.findall(r"^end (\d+)", room, re.M)[-1])
-        count = 4000 if MANY > 1 and compared == 0 else 100 if compared == 0 else 20
+        count = STATES // 6 if compared == 0 else STATES // 30
         instants = sorted(draw.sample(range(1, end), count))
         got = b.js(f"{json.dumps(instants)}.map(at => hdminet.app.model.lanes.map(lane => (now => now && now.state && now.state.line)"
                    "(hdminet.deviceAt(lane, at - 1))))")
@@ -518,7 +521,7 @@ def states_are_the_sessions(t, b):
         compared += len(told)
     t.same(f"states at {compared} instants of devices", differ[:5], [])
     t.same("how many differ", len(differ), 0)
-    if MANY > 1:
+    if IS_MANY:
         print(f"page: {compared} states at random instants are those of live")
 
 
@@ -1062,6 +1065,87 @@ def live_page_runs(t, b):
     finally:
         b.open(BARE)
         capture.end()
+
+
+# What the page has of a text, apart from what is selected; and all that it shows of a row.
+PICTURE = """(picked => {
+  const { model } = testing.app;
+  const { rows, lanes, tests, stretches, faults, wave, room } = model;
+  const remarks = list => (list || []).map(one => `${one.text} ${one.section}`);
+  const told = rows.map(({ o, type, at, until, text, cls, verdict, attempt, changes, from, to, ...row }) => [
+    o ? o.line : '', type, at, until, text, cls, verdict, attempt, changes, from, to, remarks(row.remarks), remarks(row.notes),
+    o && o.widths ? o.widths.map(one => one.line) : []]);
+  const states = lanes.map(lane => [lane.name, lane.kind, lane.history.map(one => [one.at, one.logical, one.physical,
+    one.state ? one.state.line : ''])]);
+  const wires = wave ? [wave.line, ...wave.devices].map(one => [one.name, one.changes.join()]) : [];
+  const shown = picked && picked.type !== 'gap' ? testing.shown(picked.index) : null;
+  return JSON.stringify([told, states, tests.map(one => one.line), stretches.map(one => one.line), faults, wires, room, shown]);
+})(hdminet.app.model.rows[PLACE])"""
+
+
+def picture_at(b, place):
+    """The same, where the place of the row is among as many rows as there are."""
+    return b.js(PICTURE.replace("PLACE", str(place % max(b.js("hdminet.app.model.rows.length"), 1))))
+
+
+def edited(draw, text):
+    """A text with one to three changes: of a number, of a line, of a letter."""
+    lines = text.splitlines()
+    for _ in range(draw.randint(1, 3)):
+        at, kind = draw.randrange(len(lines)), draw.random()
+        numbers = [one.span() for one in re.finditer(r"\d+", lines[at])]
+        if kind < 0.5 and numbers:
+            first, last = draw.choice(numbers)
+            lines[at] = lines[at][:first] + str(max(int(lines[at][first:last]) + draw.randint(-200000, 200000), 0)) + lines[at][last:]
+        elif kind < 0.65:
+            lines.insert(draw.randrange(len(lines)), lines[at])
+        elif kind < 0.8 and len(lines) > 3:
+            del lines[at]
+        elif kind < 0.9:
+            lines.insert(at, draw.choice(random_room(draw).splitlines()))
+        elif lines[at]:
+            place = draw.randrange(len(lines[at]))
+            lines[at] = lines[at][:place] + draw.choice("abc019 >:#") + lines[at][place + 1:]
+    return "\n".join(lines) + "\n"
+
+
+def edits_are_the_tools(t, b):
+    """A text that is edited at random: the live page has what a page of tools/look has of the same text; of one that is refused the
+    words of the refusal, and the last good picture."""
+    draw = random.Random("texts")
+    texts = [example("living-room-evening.net"), RETRIES, example("wrong-film.test")]
+    live = Live(written("edited.net", texts[0]))
+    got, good = [], []
+    try:
+        b.open(live.address)
+        b.js(HELPERS)
+        until(b, "performance.getEntriesByName('shown').length > 0")
+        while len(got) < EDITS:
+            text = edited(draw, draw.choice([*texts, *good[-2:]]))
+            before = picture_at(b, 0)
+            fault = b.js(f"(async () => {{ const {{ area, run }} = hdminet.live; area.value = {json.dumps(text)}; await run(true);"
+                         " return document.querySelector('#source .fault').textContent; })()")
+            place = draw.randrange(1000)
+            got.append((text, fault, place, picture_at(b, place) if not fault else before == picture_at(b, 0)))
+            good += [] if fault else [text]
+        faults = [fault for fault in b.faults() if not fault.startswith(f"network: {live.address}")]
+        t.same("nothing else is asked", faults, [])
+    finally:
+        b.open(BARE)
+        live.end()
+    b.js(HELPERS)
+    for text, fault, place, picture in got:
+        try:
+            pages, first = TOOL.texts_of("edited.net", text.encode(), [])
+        except TOOL.Refused as refused:
+            t.same("what is refused: its words, and the last good picture", [fault, picture], [str(refused), True])
+            continue
+        b.js(f"hdminet.app.openData({json.dumps(TOOL.embedded(pages, first, 'edited.net', packed=False))})")
+        other = picture_at(b, place)
+        t.holds("an edited text", picture == other, [text, fault, str(picture)[:500], str(other)[:500]])
+    t.holds("some are refused, and some are not", 0 < len(good) < len(got), [len(good), len(got)])
+    if IS_MANY:
+        print(f"page: {len(got)} edits are as tools/page has them, {len(got) - len(good)} of them refused")
 
 
 def live_server_is_careful(t, b):
@@ -1907,6 +1991,13 @@ def long_runs_are_fast(t, b):
     t.holds("the first picture of 20,000 rounds", best[0] < 1, best[2])
     t.holds("a step of zoom in 20,000 rounds", best[1] < 1, best[2])
     t.holds("the document has few nodes", b.js("document.querySelectorAll('*').length") < 3000)
+    # More than an hour: what was sent to the amplifier, at 5
+    told = [json.loads(line) for line in program(long_room(), "run", "--json").splitlines()]
+    wanted = [one["line"] for one in told if one.get("destination") == "5" and one.get("initiator") != "5"]
+    b.js("hdminet.app.searchFor('to:amp')")
+    t.same("to:amp finds the frames that were sent to it", b.js("hdminet.app.chart.shown.map(row => row.o.line)"), wanted)
+    t.holds("they are many", len(wanted) > 3000, len(wanted))
+    b.js("hdminet.app.searchFor('')")
     t.same("the wave is there", b.js("!!hdminet.app.model.wave && hdminet.app.model.faults.length === 0"), True)
     print(f"page: {rounds} rounds: the first picture and a step of zoom took {best[2]}")
     dense_runs_are_fast(t, b, work)
@@ -1972,7 +2063,7 @@ def sources_are_plain(t, _):
 
 ALL = [sources_are_plain, verdicts_are_drawn, colours_differ, retries_are_folded, wave_is_drawn, other_lines_are_noticed,
        capture_is_drawn, advice_is_shown, attempts_are_the_audits, words_are_the_standards, reports_are_shown, values_of_an_evening,
-       values_of_retries, values_of_a_loose_device, states_are_the_sessions, values_of_a_capture, failures_are_drawn, keys_reach_all, searches_find, other_sizes_fit, runs_stand_beside, live_page_runs, live_server_is_careful, mouse_works, hostile_inputs_are_harmless,
+       values_of_retries, values_of_a_loose_device, states_are_the_sessions, values_of_a_capture, failures_are_drawn, keys_reach_all, searches_find, other_sizes_fit, runs_stand_beside, live_page_runs, edits_are_the_tools, live_server_is_careful, mouse_works, hostile_inputs_are_harmless,
        inferences_are_the_programs, bytes_are_shown, bytes_are_reached, bytes_fit, bytes_are_the_programs, live_bytes_are_run,
        sentences_are_the_programs, dumps_are_read, tool_is_imported, files_may_be_dropped, pages_are_made,
        examples_have_pages,
@@ -1982,7 +2073,7 @@ ALL = [sources_are_plain, verdicts_are_drawn, colours_differ, retries_are_folded
 # What goes by the time that something takes runs last, alone.
 ALONE = [long_runs_are_fast]
 # What asks a server of its own, or makes the page fail: its faults are its own.
-WITH_FAULTS = [hostile_inputs_are_harmless, live_page_runs, live_server_is_careful, live_bytes_are_run]
+WITH_FAULTS = [hostile_inputs_are_harmless, live_page_runs, edits_are_the_tools, live_server_is_careful, live_bytes_are_run]
 MOST_BROWSERS = 3
 
 
