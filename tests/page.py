@@ -734,6 +734,8 @@ def round_is_shown(t, what, got, page):
         bits = ["", *("0" if low > page_values.SAMPLE else "1" for _, low, _ in slots[1:])]
         t.same(f"{what}: bits", [row[:2] for row in shown[1:]], [list(pair) for pair in zip(names, bits)])
 
+    told = [below["verdict"] for below in [*run.notes(one), *remarks] if below.get("note", below.get("remark")) in ("attempt", "too-many-attempts")]
+    t.same(f"{what}: what the audit says of its last block", [page_values.stopped(one)], told if one["ending"] == "silent" and told else [None])
     lows = [str(remark["width"]) for remark in remarks if remark["remark"] in ("start-low", "bit-low")]
     t.same(f"{what}: slots that are marked", got["odd"], lows if shown else [])
 

@@ -4,6 +4,7 @@
 
 import { tieAnswers } from './answers.js';
 import { edidOf } from './edid.js';
+import { SLOT } from './slots.js';
 import { asList, asText, begun, kindOf, lowerBound, readBytes, readDump, readEdges, readFindings, readObjects } from './texts.js';
 import { readRoom, smoothed, turned } from './texts.js';
 import { addressName } from './words.js';
@@ -240,16 +241,20 @@ class Holders {
   }
 }
 
+/* When all that a row does is done: of a round that was acknowledged the line rises after its close. */
+export const overOf = row => row.over ?? row.until ?? row.at;
+
 /* Writes down what the program says of each device over time: what it says before an instant is so since the last round or event
-   was over. */
+   ended, or, where it was asked within a slot of that end, since then. */
 function addHistory(model) {
   const ends = model.objects.filter(o => ['round', 'event'].includes(o.type)).map(o => o.close ?? o.at).sort((a, b) => a - b);
   for (const { before, state } of model.changes) {
     const lane = model.lanes[model.laneOf.get(state.device)];
     if (!lane) continue;
-    const at = ends[lowerBound(ends, before) - 1] ?? -1;
+    const end = ends[lowerBound(ends, before) - 1] ?? -1;
+    const at = before - 1 - end < SLOT ? before - 1 : end;
     const logical = state.logical.filter(Boolean).join('+');
-    const entry = { at, logical, isJoined: state.physical !== '', physical: state.physical, state };
+    const entry = { at, end, logical, isJoined: state.physical !== '', physical: state.physical, state };
     if (lane.history.length > 0 && lane.history.at(-1).at === at) lane.history.pop();
     lane.history.push(entry);
   }
@@ -264,9 +269,10 @@ function addAddresses(model) {
     if (row.type === 'round' || (row.type === 'event' && !(isFirm && !PLUGS.test(row.text)))) ended.set(at, row);
   }
   model.lanes.forEach((lane, index) => {
-    for (const { at, logical, isJoined } of lane.history) {
+    for (const { at, end, logical, isJoined } of lane.history) {
       const shown = isJoined ? logical : '';
-      const row = ended.get(at);
+      const row = ended.get(end);
+      if (row) row.over = Math.max(overOf(row), at);
       if (row && shown !== lane.shown) row.changes.push({ lane: index, text: shown || '–', was: lane.shown });
       lane.shown = shown;
     }
