@@ -504,7 +504,7 @@ def states_are_the_sessions(t, b):
         b.open(page_of(written(name, room)))
         devices = re.findall(r"^device (\S+)", room, re.M)
         end = int(re.findall(r"^end (\d+)", room, re.M)[-1])
-        count = STATES // 6 if compared == 0 else STATES // 30
+        count = STATES // 6 if compared == 0 else max(STATES // 150, 20)
         instants = sorted(draw.sample(range(1, end), count))
         got = b.js(f"{json.dumps(instants)}.map(at => hdminet.app.model.lanes.map(lane => (now => now && now.state && now.state.line)"
                    "(hdminet.deviceAt(lane, at - 1))))")
