@@ -4,8 +4,10 @@
     tests/page-faults.py BROWSER PROGRAM [NAME..]     all of them, or those whose names have one of these words
     tests/page-faults.py --apply                      only sees that each edit still applies, which takes no browser
 
-It takes some minutes, so the gate does not run it; tests/page.sh sees that the edits apply. The last line is 'N of M are found'.
+It takes some minutes, so the gate does not run it; tests/page.sh sees that the edits apply. HDMINET_BROWSERS says how many browsers
+run at once, one where it does not. The last line is 'N of M are found'.
 """
+import concurrent.futures
 import os
 import shutil
 import subprocess
@@ -178,11 +180,11 @@ def main():
     browser, program, *words = sys.argv[1:]
     chosen = [plant for plant in PLANTS if not words or any(word in plant[0] for word in words)]
     found = 0
-    for plant in chosen:
-        is_seen, said = is_found(plant, browser, program)
-        found += is_seen
-        first = next((line for line in said.splitlines() if line.startswith("not ok")), "")[:120]
-        print(f"{'found' if is_seen else 'NOT FOUND'}: {plant[0]}: {first}", flush=True)
+    with concurrent.futures.ThreadPoolExecutor(int(os.environ.get("HDMINET_BROWSERS", "1"))) as browsers:
+        for plant, (is_seen, said) in zip(chosen, browsers.map(lambda plant: is_found(plant, browser, program), chosen)):
+            found += is_seen
+            first = next((line for line in said.splitlines() if line.startswith("not ok")), "")[:120]
+            print(f"{'found' if is_seen else 'NOT FOUND'}: {plant[0]}: {first}", flush=True)
     print(f"page-faults: {found} of {len(chosen)} are found")
     sys.exit(0 if found == len(chosen) else 1)
 
