@@ -1287,6 +1287,7 @@ def bytes_are_reached(t, b):
     b.js("document.activeElement.blur()")
     b.key("n")
     t.same("n from anywhere", b.js(at), [133] * 2)
+    b.js("clearTimeout(hdminet.app.telling), history.replaceState(null, '', location.pathname)")  # else the address selects it
     load_edid(b, page_edids.odd_edid(), page_edids.ODD, page_edids.ODD_FOUND)
     b.js("document.activeElement.blur()")
     b.key("c")
