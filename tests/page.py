@@ -492,20 +492,22 @@ def room_is_shown(t, b, name, run):
 
 
 def states_are_the_sessions(t, b):
-    """At random instants, which no row of the chart begins or ends, each device's state is what a session of `live` says there: of
-    random rooms and of a long one."""
+    """At random instants, half of them soon after the close of a round, each device's state is what a session of `live` says there:
+    of random rooms and of a long one."""
     draw = random.Random("instants")
     compared, differ = 0, []
     while compared < STATES:
         room = long_room(2000) if compared == 0 else random_room(draw)
-        if not program(room, "run", "--json"):
+        closes = [json.loads(line)["close"] for line in program(room, "run", "--json").splitlines() if '"type":"round"' in line]
+        if not closes:
             continue
         name = f"instants-{compared}.net"
         b.open(page_of(written(name, room)))
         devices = re.findall(r"^device (\S+)", room, re.M)
         end = int(re.findall(r"^end (\d+)", room, re.M)[-1])
         count = STATES // 6 if compared == 0 else max(STATES // 150, 20)
-        instants = sorted(draw.sample(range(1, end), count))
+        soon = {min(draw.choice(closes) + draw.randrange(1, 1500), end - 1) for _ in range(count // 2)}
+        instants = sorted(soon.union(draw.sample(range(1, end), count - len(soon))))
         got = b.js(f"{json.dumps(instants)}.map(at => hdminet.app.model.lanes.map(lane => (now => now && now.state && now.state.line)"
                    "(hdminet.deviceAt(lane, at - 1))))")
         head, _, script = room.partition("script\n")
@@ -1076,7 +1078,7 @@ PICTURE = """(picked => {
   const remarks = list => (list || []).map(one => `${one.text} ${one.section}`);
   const told = rows.map(({ o, type, at, until, text, cls, verdict, attempt, changes, from, to, ...row }) => [
     o ? o.line : '', type, at, until, text, cls, verdict, attempt, changes, from, to, remarks(row.remarks), remarks(row.notes),
-    o && o.widths ? o.widths.map(one => one.line) : []]);
+    o && o.widths ? o.widths.map(({ kind, least, greatest }) => [kind, least, greatest]) : []]);
   const states = lanes.map(lane => [lane.name, lane.kind, lane.history.map(one => [one.at, one.logical, one.physical,
     one.state ? one.state.line : ''])]);
   const wires = wave ? [wave.line, ...wave.devices].map(one => [one.name, one.changes.join()]) : [];

@@ -106,7 +106,8 @@ function addTold(object, model, last) {
   } else if (type === 'summary') {
     last.reading = null;
   } else if (type === 'widths' && last.reading) {
-    last.reading.widths.push(object);
+    const { kind, least, greatest } = object;
+    last.reading.widths.push({ kind, least, greatest });
   } else if (type === 'sender' || type === 'widths') {
     if (!last.reading) model.ofAll.push(line.trim());
   } else if (type === 'frame') {
