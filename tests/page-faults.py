@@ -4,8 +4,10 @@
     tests/page-faults.py BROWSER PROGRAM [NAME..]     all of them, or those whose names have one of these words
     tests/page-faults.py --apply                      only sees that each edit still applies, which takes no browser
 
-It takes some minutes, so the gate does not run it; tests/page.sh sees that the edits apply. The last line is 'N of M are found'.
+It takes some minutes, so the gate does not run it; tests/page.sh sees that the edits apply. HDMINET_BROWSERS says how many browsers
+run at once, one where it does not. The last line is 'N of M are found'.
 """
+import concurrent.futures
 import os
 import shutil
 import subprocess
@@ -20,13 +22,13 @@ BYTES, REACHED, FIT, LIVE_BYTES = "bytes_are_shown", "bytes_are_reached", "bytes
 # What is wrong, the file of view/, what stands there and what is planted, and the test that is to fail.
 PLANTS = [
     ("a window of CEC 5.2", "slots.js", "one: [400, 800]", "one: [400, 900]", ROOM),
-    ("the names of addresses 8 and 9", "words.js", "'Playback 2', 'Recording 3',", "'Recording 3', 'Playback 2',", WORDS),
+    ("the names of addresses", "texts.js", "model.addresses.set(initiator, sender)", "model.addresses.set(destination, sender)", WORDS),
     ("takes it, and is taken", "words.js", "(verdict === 'nack' ? 'Nobody", "(verdict !== 'nack' ? 'Nobody", ROOM),
     ("free times", "panels.js", "12000 for a new initiator, 16800 for the last one", "16800 for a new initiator, 12000 for the last one",
      ROOM),
     ("times with five decimals", "elements.js", "toFixed(6)", "toFixed(5)", ROOM),
     ("durations ten times too large", "elements.js", "Math.round(microseconds / 100) / 10", "Math.round(microseconds / 10) / 10", ROOM),
-    ("heads of lanes at the begin", "chart.js", "const at = now ? (now.until ?? now.at) : 0;", "const at = 0;", ROOM),
+    ("heads of lanes at the begin", "chart.js", "const at = now ? overOf(now) : 0;", "const at = 0;", ROOM),
     ("the strip's click mirrored", "strip.js", "selectAt(event.offsetX / this.width)", "selectAt(1 - event.offsetX / this.width)", ROOM),
     ("idle time from a third of a second on", "model.js", "const FOLDED_IDLE = 250000;", "const FOLDED_IDLE = 350000;", EVENING),
     ("an arbitration one slot too high", "chart.js", "at bit ${slot} of", "at bit ${slot + 1} of", ROOM),
@@ -35,7 +37,11 @@ PLANTS = [
     ("the time since the close, from the begin", "panels.js", "round.begin - before.close", "round.begin - before.begin", ROOM),
     ("the words of two refusals", "words.js", "'not-plugged': 'it is plugged in nowhere'",
      "'not-plugged': 'the device is not joined to the television'", WORDS),
-    ("a window that is out is in", "panels.js", "isIn ? 'in' : bad('out')", "'in'", CAPTURE),
+    ("a window that is out is in", "panels.js", "isRemarked ? bad('out') : 'in'", "'in'", CAPTURE),
+    ("the widths of another kind", "panels.js", "seen.filter(one => one.kind === kind)", "seen.filter(one => one.kind !== kind)", ROOM),
+    ("which window a remark is of", "panels.js", "one.kind === remark && one.least === window[0]", "one.kind === remark", CAPTURE),
+    ("which slot is marked", "slots.js", "one.kind === 'bit-low' && one.slot === slot", "one.kind === 'bit-low' && one.slot === slot + 1",
+     CAPTURE),
     ("when a bit is read", "slots.js", "const SAMPLE = 1050;", "const SAMPLE = 1500;", ROOM),
     ("who acknowledges, before they do", "slots.js", "slots[slot].at + SAMPLE", "slots[slot].at - SAMPLE", ROOM),
     ("which address is lost", "model.js", "text: shown || '–', was: lane.shown });\n      lane.shown",
@@ -52,7 +58,7 @@ PLANTS = [
      "row.notes.length > 0 && svg('tspan', { class: 'warn', dx: 8 }, `⚠ ${row.notes.length}`)", ROOM),
     ("times of the table, at the close", "panels.js", "    seconds(row.at), names(row.from || []),",
      "    seconds(row.until ?? row.at), names(row.from || []),", ROOM),
-    ("what a deck does", "words.js", "11: 'play', 14: 'still'", "11: 'still', 14: 'play'", LOOSE),
+    ("what a deck does", "texts.js", "bytes.slice(4), operand || word", "bytes.slice(4), operand || name", WORDS),
     ("what counts as taken", "panels.js", "if (round.verdict === 'ack' || round.verdict === 'ok')", "if (round.verdict)", ROOM),
     ("who hears what is for all", "model.js", "return model.isCapture || isJoined;", "return true;", LOOSE),
     ("an address in the chart that is the last one", "model.js", "text: shown || '–', was: lane.shown });\n      lane.shown",
@@ -68,14 +74,15 @@ PLANTS = [
     ("the free time before a round", "slots.js", "wave.line.changes[i - 1] : null", "wave.line.changes[i - 2] : null", ROOM),
     ("how many rounds there are", "view.js", "counted(rounds.length, 'round')", "counted(rounds.length + 1, 'round')", ROOM),
     ("where a round is on the strip", "strip.js", "const from = row.at * scale;", "const from = (row.at + 2e5) * scale;", ROOM),
-    ("who sends to whom, in a block", "panels.js", "`${addressInWords(byte[0])} to ${isBroadcast",
-     "`${addressInWords(byte[1])} to ${isBroadcast", ROOM),
+    ("who sends to whom, in a block", "panels.js", "`${addressInWords(model, byte[0])} to ${isBroadcast",
+     "`${addressInWords(model, byte[1])} to ${isBroadcast", ROOM),
     ("which frame answers which", "answers.js", "71: '7a'", "71: '7e'", ROOM),
     ("the delay of an answer", "answers.js", "answer.at - answer.answers.until", "answer.at - answer.answers.at", ROOM),
     ("whom a search for a receiver finds", "find.js", "isOneOf(model, row.to, name)", "isOneOf(model, row.from, name)", SEARCH),
     ("the span of a search", "find.js", "(row.until ?? row.at) >= least", "row.at >= least", SEARCH),
     ("the active source of the room", "room.js", "'physical_address') === active)", "'physical_address') !== active)", LOOSE),
     ("the state before the row", "room.js", "recordsAt(lane, instant)])", "recordsAt(lane, instant - 1)])", LOOSE),
+    ("when the state changes after an acknowledge", "model.js", "before - 1 - end < SLOT ? before - 1 : end", "end", "states_are_the_sessions"),
     ("the words of a verdict", "words.js", "nack: 'Nobody acknowledged a block.'", "nack: 'Somebody refused a block.'", ROOM),
     ("the window of an expectation that is copied", "words.js", "`expect from ${begin} to ${close} ${",
      "`expect from ${begin} to ${close - 1} ${", "live_page_runs"),
@@ -173,11 +180,11 @@ def main():
     browser, program, *words = sys.argv[1:]
     chosen = [plant for plant in PLANTS if not words or any(word in plant[0] for word in words)]
     found = 0
-    for plant in chosen:
-        is_seen, said = is_found(plant, browser, program)
-        found += is_seen
-        first = next((line for line in said.splitlines() if line.startswith("not ok")), "")[:120]
-        print(f"{'found' if is_seen else 'NOT FOUND'}: {plant[0]}: {first}", flush=True)
+    with concurrent.futures.ThreadPoolExecutor(int(os.environ.get("HDMINET_BROWSERS", "1"))) as browsers:
+        for plant, (is_seen, said) in zip(chosen, browsers.map(lambda plant: is_found(plant, browser, program), chosen)):
+            found += is_seen
+            first = next((line for line in said.splitlines() if line.startswith("not ok")), "")[:120]
+            print(f"{'found' if is_seen else 'NOT FOUND'}: {plant[0]}: {first}", flush=True)
     print(f"page-faults: {found} of {len(chosen)} are found")
     sys.exit(0 if found == len(chosen) else 1)
 

@@ -1,9 +1,13 @@
 #!/usr/bin/env python3
-"""page.py BROWSER ROOM: the tests of tests/page.sh. ROOM is a folder for what they make; HDMINET names the program."""
+"""page.py BROWSER ROOM [TEST..]: the tests of tests/page.sh. ROOM is a folder for what they make; HDMINET names the program, and
+HDMINET_BROWSERS how many browsers run at once. With HDMINET_TIMES each test says what time it has taken, and with HDMINET_MANY
+those that draw at random draw 1,000 edits and 30,000 states.
+"""
 import http.client
 import importlib.machinery
 import importlib.util
 import json
+import multiprocessing
 import os
 import random
 import re
@@ -11,6 +15,7 @@ import signal
 import socket
 import subprocess
 import sys
+import tempfile
 import time
 
 import page_edids
@@ -18,6 +23,9 @@ import page_values
 from browser import Browser
 from page_inputs import hostile_inputs, long_room, MARKUP, random_room, RETRIES
 
+# Whether tests draw as much at random as the page was once looked at with, which takes some minutes.
+IS_MANY = bool(os.environ.get("HDMINET_MANY"))
+EDITS, STATES = (1000, 30000) if IS_MANY else (12, 600)
 TOP = os.path.dirname(os.path.dirname(os.path.realpath(__file__)))
 EXAMPLES = os.path.join(TOP, "examples")
 PROGRAM = os.environ["HDMINET"]
@@ -117,7 +125,7 @@ window.testing = {
       titles: texts(group, '.lost title'), claims, about: texts(group, 'title.about').join(),
       verdictTitle: texts(group, 'g g > title').join(),
       name: group.getAttribute('aria-label'), heads: [...document.querySelectorAll('#heads g')].map(head => texts(head, 'text')),
-      hints: texts(document, '#heads title'), title: texts(content, 'h2').join(), marks: this.drawn('', 0, row), ...parts,
+      hints: texts(document, '#heads title'), odd: texts(content, 'details .bad'), title: texts(content, 'h2').join(), marks: this.drawn('', 0, row), ...parts,
     };
   },
   /* Where the strip has a row: what a click at its middle selects. */
@@ -129,6 +137,17 @@ window.testing = {
     const x = box.x + (row.at / app.model.end) * box.width;
     strip.dispatchEvent(new MouseEvent('click', { clientX: x, clientY: box.y + 10, bubbles: true }));
     return [app.selected.at, (2 * app.model.end) / box.width];
+  },
+  /* What the wave has of some rounds, by their lines: its texts, where its ruler's times stand, what it reads at some instants. */
+  waves(asked) {
+    const { wave, model } = this.app;
+    return asked.map(([line, instants]) => {
+      wave.showRound(this.rowOf(line).o);
+      wave.cursors = [null, null];
+      const texts = this.written(() => wave.draw());
+      const marks = texts.filter(([text]) => /^\d+\.\d{6}$/.test(text)).map(([text, x]) => [x, wave.x(Number(text) * 1e6) + 3]);
+      return { words: texts.map(([text]) => text), marks, read: instants.map(at => wave.readingAt(at, model.wave.line)) };
+    });
   },
   /* The texts that a canvas draws. */
   written(draw) {
@@ -184,11 +203,29 @@ def written(name, text):
     return path
 
 
+def page_tool():
+    """tools/page as a module, read anew."""
+    loader = importlib.machinery.SourceFileLoader("page", os.path.join(TOP, "tools/page"))
+    tool = importlib.util.module_from_spec(importlib.util.spec_from_loader("page", loader))
+    loader.exec_module(tool)
+    return tool
+
+
+TOOL = page_tool()
+MADE = {}
+
+
 def page_of(path, *flags):
-    """The page of a file, as tools/page makes it."""
-    page = os.path.join(ROOM, f"{os.path.basename(path)}.html")
-    subprocess.run([os.path.join(TOP, "tools/page"), path, "-o", page, *flags], check=True)
-    return page
+    """The page of a file, as tools/page makes it: of the same text once."""
+    with open(path, "rb") as file:
+        key = (path, file.read(), flags)
+    if key not in MADE:
+        MADE[key] = os.path.join(ROOM, f"{len(MADE)}-{os.path.basename(path)}.html")
+        try:
+            TOOL.main([path, "-o", MADE[key], *flags])
+        except SystemExit as fault:
+            raise RuntimeError(f"tools/page {path}: {fault}") from None
+    return MADE[key]
 
 
 def show(b, path, *flags):
@@ -284,6 +321,10 @@ def retries_are_folded(t, b):
     t.same("lost addresses", [lost["label"], lost["claims"]], ["unplug amp", "–,–,–"])
     t.holds("and what to look at says so",
             "p1 loses the address 4: unplug amp" in b.js("testing.app.openPanel('look'), testing.panel()"))
+    boxes = b.js("(group => ['.label', '.lost', '.warn'].map(one => group.querySelector(one).getBoundingClientRect().toJSON()))"
+                 "(testing.drawn(' short 0') && document.getElementById(`row${testing.rowOf(' short 0').index}`))")
+    meet = [one for one in boxes[1:] if one["left"] < boxes[0]["right"] and boxes[0]["left"] < one["right"]]
+    t.same("the mark of a loser is clear of the text of a broken round", meet, [])
     race = drawn(b, "4>0 image-view-on ack by p1 out p2@1")
     t.same("a lost arbitration", [race["senders"], race["losers"], race["outs"]], [["p1"], ["p2"], ["out @1"]])
 
@@ -450,6 +491,42 @@ def room_is_shown(t, b, name, run):
                 for key in keys])
 
 
+def states_are_the_sessions(t, b):
+    """At random instants, half of them soon after the close of a round, each device's state is what a session of `live` says there:
+    of random rooms and of a long one."""
+    draw = random.Random("instants")
+    compared, differ = 0, []
+    while compared < STATES:
+        room = long_room(2000) if compared == 0 else random_room(draw)
+        closes = [json.loads(line)["close"] for line in program(room, "run", "--json").splitlines() if '"type":"round"' in line]
+        if not closes:
+            continue
+        name = f"instants-{compared}.net"
+        b.open(page_of(written(name, room)))
+        devices = re.findall(r"^device (\S+)", room, re.M)
+        end = int(re.findall(r"^end (\d+)", room, re.M)[-1])
+        count = STATES // 6 if compared == 0 else max(STATES // 150, 20)
+        soon = {min(draw.choice(closes) + draw.randrange(1, 1500), end - 1) for _ in range(count // 2)}
+        instants = sorted(soon.union(draw.sample(range(1, end), count - len(soon))))
+        got = b.js(f"{json.dumps(instants)}.map(at => hdminet.app.model.lanes.map(lane => (now => now && now.state && now.state.line)"
+                   "(hdminet.deviceAt(lane, at - 1))))")
+        head, _, script = room.partition("script\n")
+        timed = [(int(line.split(" ")[1]), 0, line) for line in script.splitlines() if re.match(r"at |pulse ", line)]
+        # Of one instant a session takes what the script has before it is asked
+        asked = "\n".join(line for _, _, line in sorted(
+            [*timed, *((at, 1, "\n".join([f"run to {at}", *(f"show {name}" for name in devices)])) for at in instants)],
+            key=lambda one: one[:2]))
+        told = [line[2:] for line in program(f"{head}script\n{asked}\nend {end}\n", "live").splitlines() if line.startswith("= state ")]
+        t.same(f"{name}: what the session says", len(told), len(devices) * len(instants))
+        found = [state.removeprefix("= ") for states in got for state in states]
+        differ += [(name, one, other) for one, other in zip(found, told) if one != other]
+        compared += len(told)
+    t.same(f"states at {compared} instants of devices", differ[:5], [])
+    t.same("how many differ", len(differ), 0)
+    if IS_MANY:
+        print(f"page: {compared} states at random instants are those of live")
+
+
 def values_of_a_capture(t, b):
     """A capture: each fortieth rise comes late by 300, and each sixtieth by as much too early."""
     rows = [(int(at), level) for at, level in (line.split() for line in program(RETRIES, "run", "--edges").splitlines())]
@@ -555,28 +632,25 @@ def reports_are_shown(t, b):
 def wave_is_shown(t, b, name, run):
     """What the wave says: each frame with its verdict, the bits of some, the ruler, and what is under the mouse."""
     line = run.wires[0][1]
-    for one in run.rounds[::9]:
-        number = json.dumps(one["line"])
-        b.js(f"testing.app.wave.showRound(testing.rowOf({number}).o), testing.app.wave.cursors = [null, null]")
-        texts = b.js("testing.written(() => testing.app.wave.draw())")
-        words = [text for text, _, _ in texts]
+    some = run.rounds[::9]
+    slots = [line.slots(one["begin"], one["close"]) for one in some]
+    asked = [[one["line"], [fall + 1 for fall, _, _ in falls[:12]]] for one, falls in zip(some, slots)]
+    for one, falls, got in zip(some, slots, b.js(f"testing.waves({json.dumps(asked)})")):
+        words, marks = got["words"], got["marks"]
         label = f"{one['frame']} {one['verdict']}" if one["ending"] == "complete" else page_values.label(one)
         is_there = label in words or any(label.startswith(word[:-1]) and word.endswith("…") for word in words)
         t.holds(f"{name}: the frame {label}", is_there, words)
-        marks = [(text, x) for text, x, y in texts if re.match(r"\d+\.\d{6}$", text)]
-        places = b.js(f"{json.dumps([float(text) * 1e6 for text, _ in marks])}.map(at => testing.app.wave.x(at) + 3)")
-        t.holds(f"{name}: the ruler", marks and all(abs(x - place) < 0.01 for (_, x), place in zip(marks, places)), [marks, places])
+        t.holds(f"{name}: the ruler", marks and all(abs(x - place) < 0.01 for x, place in marks), marks)
         if one["ending"] != "complete":
             continue
-        for slot, (fall, low, total) in list(enumerate(line.slots(one["begin"], one["close"])))[:12]:
-            read = b.js(f"testing.app.wave.readingAt({fall + 1}, testing.app.model.wave.line)")
+        for slot, ((fall, low, total), read) in enumerate(zip(falls, got["read"])):
             kind = "start low" if slot == 0 else "0 low" if low > page_values.SAMPLE else "1 low"
             least, most = page_values.WINDOWS[kind]
             parts = ["bit 1", "bit 2", "bit 3", "bit 4", "bit 5", "bit 6", "bit 7", "bit 8", "EOM", "ACK"]
             place = f"block {(slot + 9) // 10} {parts[(slot - 1) % 10]}"
             where = "start bit" if slot == 0 else f"slot {slot}: {place} = {int(kind == '1 low')}"
             window = page_values.WINDOWS["start total" if slot == 0 else "bit total"]
-            is_last = slot + 1 == len(line.slots(one["begin"], one["close"]))
+            is_last = slot + 1 == len(falls)
             whole = "" if is_last else f", total {total} of {window[0]}..{window[1]}"
             t.same(f"{name}: slot {slot} of {one['line']}", read[:3],
                    [f"{fall + 1} µs", f"CEC low {low} µs, from {fall} to {fall + low}", f"{where}, low {low} of {least}..{most}{whole}"])
@@ -592,10 +666,18 @@ def words_are_the_standards(t, b):
     sixteen = [reading(60000 * i, ending="complete", frame=f"{i:x}>f standby", initiator=f"{i:x}", destination="f",
                        bytes=f"{i:x}f36", verdict="ok") for i in range(16)]
     load(b, "\n".join(sixteen))
+    t.same("without the program's sentences", b.js("testing.shown(0).tables.Blocks[0][2]"), "address 0 to all")
+    load(b, "\n".join(sixteen), program("".join(f"{i:x}f36\n" for i in range(16)), "dis", "--meaning", "--json"))
     t.same("the names of addresses", b.js("testing.shown(0).hints"),
            [f"{i:x}, {name}: search for what it sends, and then for what it is sent" for i, name in enumerate(page_values.ADDRESSES)])
     t.same("in sentences", b.js("testing.app.model.rows.map((row, index) => testing.shown(index)).filter(got => got.type === 'round')"
                                 ".map(got => got.tables.Blocks[0][2])"), [f"{page_values.in_words(f'{i:x}')} to all" for i in range(16)])
+    decks = [json.dumps({"line": f"state d{deck}", "type": "state", "device": f"d{deck}", "kind": "player", "deck": deck})
+             for deck in page_values.DECKS]
+    load(b, "\n".join([reading(0, ending="silent", bits="0"), *decks]),
+         program("".join(f"401b{deck}\n" for deck in page_values.DECKS), "dis", "--meaning", "--json"))
+    t.same("what decks do", b.js("testing.app.openPanel('devices'), " + TABLE + "[0].find(row => row[0] === 'deck').slice(1)"),
+           list(page_values.DECKS.values()))
     endings = [ending for ending in page_values.ENDINGS]
     load(b, "\n".join(reading(60000 * i, ending=ending, bits="01") for i, ending in enumerate(endings)))
     t.same("the endings", b.js("testing.app.model.rounds.map(o => hdminet.meaningOf(o, testing.app.model))"),
@@ -642,7 +724,7 @@ def round_is_shown(t, what, got, page):
     t.same(f"{what}: parties and times", got["tables"][got["title"]], page.parties())
     t.same(f"{what}: blocks", got["tables"].get("Blocks"), page.blocks())
     widths = got["tables"].get("Widths, in µs")
-    t.same(f"{what}: widths", widths and widths[1:], page.widths())
+    t.same(f"{what}: widths", (widths or [[]])[1:], page.widths())
     t.same(f"{what}: free time", [text for text in got["texts"] if "was high for" in text], [page.free()] if page.free() else [])
     slots = run.wires[0][1].slots(one["begin"], one["close"])
     each = [[str(low), "" if i + 1 == len(slots) else str(total)] for i, (_, low, total) in enumerate(slots)]
@@ -653,6 +735,11 @@ def round_is_shown(t, what, got, page):
         names = ["start", *(f"block {i // 10 + 1} {parts[i % 10]}" for i in range(len(slots) - 1))]
         bits = ["", *("0" if low > page_values.SAMPLE else "1" for _, low, _ in slots[1:])]
         t.same(f"{what}: bits", [row[:2] for row in shown[1:]], [list(pair) for pair in zip(names, bits)])
+
+    told = [below["verdict"] for below in [*run.notes(one), *remarks] if below.get("note", below.get("remark")) in ("attempt", "too-many-attempts")]
+    t.same(f"{what}: what the audit says of its last block", [page_values.stopped(one)], told if one["ending"] == "silent" and told else [None])
+    lows = [str(remark["width"]) for remark in remarks if remark["remark"] in ("start-low", "bit-low")]
+    t.same(f"{what}: slots that are marked", got["odd"], lows if shown else [])
 
     def said(below):
         return [one["line"].strip() + (f" (CEC {one['section']})" if one["section"] else "") for one in below]
@@ -675,11 +762,9 @@ def event_is_shown(t, what, got, row):
 
 def strip_is_shown(t, b, name, run):
     """A click on the strip goes to the row that is there, and the row's colour is there."""
-    for number, row in enumerate(run.rows):
-        if row["type"] != "round" or number % 5:
-            continue
-        at, pixel = b.js(f"testing.clicked({number})")
-        t.holds(f"{name}: a click on the strip", abs(at - row["begin"]) <= pixel, [at, row])
+    some = [number for number, row in enumerate(run.rows) if row["type"] == "round" and number % 5 == 0]
+    for number, (at, pixel) in zip(some, b.js(f"{json.dumps(some)}.map(number => testing.clicked(number))")):
+        t.holds(f"{name}: a click on the strip", abs(at - run.rows[number]["begin"]) <= pixel, [at, run.rows[number]])
     ink = b.js("""(() => { const { app } = testing; const { model } = app; const strip = app.strip.picture;
       const pen = strip.getContext('2d');
       return model.rows.filter(row => row.type === 'round' && row.until - row.at > model.end / 200).map(row => {
@@ -826,7 +911,7 @@ def searches_find(t, b):
     time.sleep(0.5)
     moment = b.js("location.hash")
     t.same("the moment is in the address", moment, b.js("`#t=${(testing.app.selected.at / 1e6).toFixed(6)}&sel=${testing.app.selected.index}`"))
-    page = os.path.join(ROOM, "living-room-evening.net.html")
+    page = page_of(os.path.join(EXAMPLES, "living-room-evening.net"))
     b.call("Page.navigate", url=f"file://{BARE}")
     b.open(f"{page}#t=0.050700&sel=1")
     t.same("an address with a moment", b.js("hdminet.app.selected.at"), 50700)
@@ -986,6 +1071,87 @@ def live_page_runs(t, b):
         capture.end()
 
 
+# What the page has of a text, apart from what is selected; and all that it shows of a row.
+PICTURE = """(picked => {
+  const { model } = testing.app;
+  const { rows, lanes, tests, stretches, faults, wave, room } = model;
+  const remarks = list => (list || []).map(one => `${one.text} ${one.section}`);
+  const told = rows.map(({ o, type, at, until, text, cls, verdict, attempt, changes, from, to, ...row }) => [
+    o ? o.line : '', type, at, until, text, cls, verdict, attempt, changes, from, to, remarks(row.remarks), remarks(row.notes),
+    o && o.widths ? o.widths.map(({ kind, least, greatest }) => [kind, least, greatest]) : []]);
+  const states = lanes.map(lane => [lane.name, lane.kind, lane.history.map(one => [one.at, one.logical, one.physical,
+    one.state ? one.state.line : ''])]);
+  const wires = wave ? [wave.line, ...wave.devices].map(one => [one.name, one.changes.join()]) : [];
+  const shown = picked && picked.type !== 'gap' ? testing.shown(picked.index) : null;
+  return JSON.stringify([told, states, tests.map(one => one.line), stretches.map(one => one.line), faults, wires, room, shown]);
+})(hdminet.app.model.rows[PLACE])"""
+
+
+def picture_at(b, place):
+    """The same, where the place of the row is among as many rows as there are."""
+    return b.js(PICTURE.replace("PLACE", str(place % max(b.js("hdminet.app.model.rows.length"), 1))))
+
+
+def edited(draw, text):
+    """A text with one to three changes: of a number, of a line, of a letter."""
+    lines = text.splitlines()
+    for _ in range(draw.randint(1, 3)):
+        at, kind = draw.randrange(len(lines)), draw.random()
+        numbers = [one.span() for one in re.finditer(r"\d+", lines[at])]
+        if kind < 0.5 and numbers:
+            first, last = draw.choice(numbers)
+            lines[at] = lines[at][:first] + str(max(int(lines[at][first:last]) + draw.randint(-200000, 200000), 0)) + lines[at][last:]
+        elif kind < 0.65:
+            lines.insert(draw.randrange(len(lines)), lines[at])
+        elif kind < 0.8 and len(lines) > 3:
+            del lines[at]
+        elif kind < 0.9:
+            lines.insert(at, draw.choice(random_room(draw).splitlines()))
+        elif lines[at]:
+            place = draw.randrange(len(lines[at]))
+            lines[at] = lines[at][:place] + draw.choice("abc019 >:#") + lines[at][place + 1:]
+    return "\n".join(lines) + "\n"
+
+
+def edits_are_the_tools(t, b):
+    """A text that is edited at random: the live page has what a page of tools/look has of the same text; of one that is refused the
+    words of the refusal, and the last good picture."""
+    draw = random.Random("texts")
+    texts = [example("living-room-evening.net"), RETRIES, example("wrong-film.test")]
+    live = Live(written("edited.net", texts[0]))
+    got, good = [], []
+    try:
+        b.open(live.address)
+        b.js(HELPERS)
+        until(b, "performance.getEntriesByName('shown').length > 0")
+        while len(got) < EDITS:
+            text = edited(draw, draw.choice([*texts, *good[-2:]]))
+            before = picture_at(b, 0)
+            fault = b.js(f"(async () => {{ const {{ area, run }} = hdminet.live; area.value = {json.dumps(text)}; await run(true);"
+                         " return document.querySelector('#source .fault').textContent; })()")
+            place = draw.randrange(1000)
+            got.append((text, fault, place, picture_at(b, place) if not fault else before == picture_at(b, 0)))
+            good += [] if fault else [text]
+        faults = [fault for fault in b.faults() if not fault.startswith(f"network: {live.address}")]
+        t.same("nothing else is asked", faults, [])
+    finally:
+        b.open(BARE)
+        live.end()
+    b.js(HELPERS)
+    for text, fault, place, picture in got:
+        try:
+            pages, first = TOOL.texts_of("edited.net", text.encode(), [])
+        except TOOL.Refused as refused:
+            t.same("what is refused: its words, and the last good picture", [fault, picture], [str(refused), True])
+            continue
+        b.js(f"hdminet.app.openData({json.dumps(TOOL.embedded(pages, first, 'edited.net', packed=False))})")
+        other = picture_at(b, place)
+        t.holds("an edited text", picture == other, [text, fault, str(picture)[:500], str(other)[:500]])
+    t.holds("some are refused, and some are not", 0 < len(good) < len(got), [len(good), len(got)])
+    if IS_MANY:
+        print(f"page: {len(got)} edits are as tools/page has them, {len(got) - len(good)} of them refused")
+
+
 def live_server_is_careful(t, b):
     """The server of tools/look --live answers its own page alone, takes 1 MB, and ends with all that it started."""
     live = Live(written("careful.net", example("first-path.net")))
@@ -1123,6 +1289,7 @@ def bytes_are_reached(t, b):
     b.js("document.activeElement.blur()")
     b.key("n")
     t.same("n from anywhere", b.js(at), [133] * 2)
+    b.js("clearTimeout(hdminet.app.telling), history.replaceState(null, '', location.pathname)")  # else the address selects it
     load_edid(b, page_edids.odd_edid(), page_edids.ODD, page_edids.ODD_FOUND)
     b.js("document.activeElement.blur()")
     b.key("c")
@@ -1357,6 +1524,8 @@ def other_sizes_fit(t, b):
         t.holds("the panel stands below", boxes[1][1] > boxes[0][1] + 200 and boxes[1][2] > 350, boxes)
         t.holds("nothing is wider", b.js("document.documentElement.scrollWidth") <= 390)
         b.open(BARE)
+        shown = b.js("['aside', '#chart'].map(one => getComputedStyle(document.querySelector(one)).display)")
+        t.same("an empty page has no panel there", shown, ["none", "block"])
         help_at = b.js("document.querySelector('.empty h2').getBoundingClientRect().y")
         t.holds("the help stands on the first screen", 0 < help_at < 500, help_at)
     finally:
@@ -1437,6 +1606,32 @@ def hostile_inputs_are_harmless(t, b):
         t.same(f"hostile: {name}", found, {"thrown": [], "hit": 0, "images": 0})
     load(b, '{"line":"x","type":"later"}\n{"line":"y","type":"later"}\n')
     t.same("objects of a later program", b.js("testing.app.model.faults"), ["2 of the type later, which this page does not know"])
+    objects = program(example("first-path.net"), "run", "--json")
+    cut = objects[:objects.index('"complete","frame":"4>0 image-view-on"')]
+    load(b, cut)
+    t.same("objects that are cut: what is readable, and a note", b.js("(m => [m.rounds.length, m.faults])(testing.app.model)"),
+           [4, [f"line 6 is no object of the program: {cut.splitlines()[5][:60]}"]])
+    report = program(example("wrong-film.test"), "check", "--json")
+    load(b, report.replace('"version":13', '"version":14'))
+    t.same("a report of another version: what is readable, and a note", b.js("(m => [m.tests.length, m.faults])(testing.app.model)"),
+           [3, ["a report of version 14; this page reads version 13"]])
+    load(b, report)
+    t.same("a report of this version", b.js("testing.app.model.faults"), [])
+    limit = b.js("hdminet.LIMITS.text")
+    dump = program(example("first-path.net"), "run", "--edges", "--as", "vcd", "--drives")
+    b.js(f"hdminet.LIMITS.text = {len(objects) - 300}")
+    load(b, objects)
+    t.same("a text that is too long: its begin, and a note", b.js("(m => [m.rounds.length, m.states.length, m.faults])(testing.app.model)"),
+           [6, 1, ["text 0: too long; its begin is shown"]])
+    b.js(f"hdminet.LIMITS.text = {len(dump) // 2}")
+    load(b, dump)
+    t.same("a dump that is too long", b.js("(m => [m.faults, 0 < m.wave.end && m.wave.end < 1500000])(testing.app.model)"),
+           [["text 0: too long; its begin is shown"], True])
+    b.js("hdminet.LIMITS.text = 1000")
+    drop_file(b, "long.jsonl", objects)
+    t.holds("a file that is too long", until(b, "hdminet.app.model.faults.includes('long.jsonl: too long; its begin is shown')", 20),
+            b.js("hdminet.app.model.faults"))
+    b.js(f"hdminet.LIMITS.text = {limit}")
     load(b, "")
     t.holds("an empty file is named", "empty" in b.js("document.getElementById('panel').textContent"))
     load(b, inputs["broken lines"][0])
@@ -1526,6 +1721,13 @@ def dumps_are_read(t, b):
         t.same(f"dump: {name}", b.js(f"hdminet.readDump({json.dumps(text)}).line.changes"), changes)
 
 
+def drop_file(b, name, text):
+    """Drops a file on the page."""
+    file = f"new File([{json.dumps(text)}], {json.dumps(name)})"
+    b.js(f"(async () => {{ const data = new DataTransfer(); data.items.add({file});"
+         "document.dispatchEvent(new DragEvent('drop', { dataTransfer: data, bubbles: true, cancelable: true })); })()")
+
+
 def files_may_be_dropped(t, b):
     """Objects, then a dump, a room and an EDID, one after the other, by drop and by paste."""
     b.open(BARE)
@@ -1533,14 +1735,8 @@ def files_may_be_dropped(t, b):
     room = example("first-path.net")
 
     def drop(name, text):
-        file = f"new File([{json.dumps(text)}], {json.dumps(name)})"
-        b.js(f"(async () => {{ const data = new DataTransfer(); data.items.add({file});"
-             "document.dispatchEvent(new DragEvent('drop', { dataTransfer: data, bubbles: true, cancelable: true }));"
-             "await new Promise(done => setTimeout(done, 100)); })()")
-        for _ in range(100):
-            if b.js(f"testing.app.texts.some(one => one.name === {json.dumps(name)})"):
-                break
-            time.sleep(0.05)
+        drop_file(b, name, text)
+        t.holds(f"dropped: {name} is read", until(b, f"testing.app.texts.some(one => one.name === {json.dumps(name)})", 20))
     there = "(m => [m.rounds.length, !!m.wave, !!m.room, m.meanings.length, m.faults.length])(testing.app.model)"
     with open(os.path.join(EXAMPLES, "lg-oled55b6v.edid"), "rb") as file:
         meaning = subprocess.run([PROGRAM, "edid", "--meaning"], stdin=file, capture_output=True, check=True).stdout.decode()
@@ -1670,9 +1866,7 @@ def attempts_are_the_audits(t, b):
 def tool_is_imported(t, b):
     """tools/page as a module: the times and levels of captures, and the flags that a line of the program advises, by hand
     (docs/captures.md)."""
-    loader = importlib.machinery.SourceFileLoader("page", os.path.join(TOP, "tools/page"))
-    tool = importlib.util.module_from_spec(importlib.util.spec_from_loader("page", loader))
-    loader.exec_module(tool)
+    tool = page_tool()
     day = tool.csv_time("2026-11-26T16:00:00.060000000+00:00")
     t.same("times", [tool.csv_time("0.012000000"), tool.csv_time("12"), tool.csv_time("-0.5"),
                      tool.csv_time("2026-11-26T16:00:01.5Z") - day, tool.csv_time("2026-11-26T18:00:00.07+02:00") - day],
@@ -1802,6 +1996,13 @@ def long_runs_are_fast(t, b):
     t.holds("the first picture of 20,000 rounds", best[0] < 1, best[2])
     t.holds("a step of zoom in 20,000 rounds", best[1] < 1, best[2])
     t.holds("the document has few nodes", b.js("document.querySelectorAll('*').length") < 3000)
+    # More than an hour: what was sent to the amplifier, at 5
+    told = [json.loads(line) for line in program(long_room(), "run", "--json").splitlines()]
+    wanted = [one["line"] for one in told if one.get("destination") == "5" and one.get("initiator") != "5"]
+    b.js("hdminet.app.searchFor('to:amp')")
+    t.same("to:amp finds the frames that were sent to it", b.js("hdminet.app.chart.shown.map(row => row.o.line)"), wanted)
+    t.holds("they are many", len(wanted) > 3000, len(wanted))
+    b.js("hdminet.app.searchFor('')")
     t.same("the wave is there", b.js("!!hdminet.app.model.wave && hdminet.app.model.faults.length === 0"), True)
     print(f"page: {rounds} rounds: the first picture and a step of zoom took {best[2]}")
     dense_runs_are_fast(t, b, work)
@@ -1810,6 +2011,14 @@ def long_runs_are_fast(t, b):
 def dense_runs_are_fast(t, b, work):
     """100,000 rounds with their audit are read and drawn in 5 s, a search takes 100 ms, bad starts one after another are a row; on
     a machine as above."""
+    # From row to row, with the room drawn anew
+    b.open(page_of(os.path.join(EXAMPLES, "living-room-evening.net")))
+    slower = max(b.js(work) / 200, 1)
+    steps = b.js("(({ app }) => { app.openPanel('room'); app.goTo(0); return app.chart.shown.map((row, place) => {"
+                 " const from = performance.now(); app.goTo(place); app.wave.draw(); app.strip.draw();"
+                 " document.body.getBoundingClientRect(); return performance.now() - from; }).sort((a, b) => a - b); })(hdminet)")
+    t.holds("an arrow key redraws the room in 50 ms", steps[len(steps) * 9 // 10] < 50 * slower, steps)
+    print(f"page: a step from row to row took {steps[len(steps) // 2]:.1f} ms, at most {steps[-1]:.1f} ms")
     b.open(BARE)
     slower = max(b.js(work) / 200, 1)
     load_dense = """(async () => {
@@ -1867,36 +2076,89 @@ def sources_are_plain(t, _):
 
 ALL = [sources_are_plain, verdicts_are_drawn, colours_differ, retries_are_folded, wave_is_drawn, other_lines_are_noticed,
        capture_is_drawn, advice_is_shown, attempts_are_the_audits, words_are_the_standards, reports_are_shown, values_of_an_evening,
-       values_of_retries, values_of_a_loose_device, values_of_a_capture, failures_are_drawn, keys_reach_all, searches_find, other_sizes_fit, runs_stand_beside, live_page_runs, live_server_is_careful, mouse_works, hostile_inputs_are_harmless,
+       values_of_retries, values_of_a_loose_device, states_are_the_sessions, values_of_a_capture, failures_are_drawn, keys_reach_all, searches_find, other_sizes_fit, runs_stand_beside, live_page_runs, edits_are_the_tools, live_server_is_careful, mouse_works, hostile_inputs_are_harmless,
        inferences_are_the_programs, bytes_are_shown, bytes_are_reached, bytes_fit, bytes_are_the_programs, live_bytes_are_run,
        sentences_are_the_programs, dumps_are_read, tool_is_imported, files_may_be_dropped, pages_are_made,
        examples_have_pages,
        long_runs_are_fast]
 
 
-def main():
-    signal.signal(signal.SIGTERM, lambda *_: sys.exit(1))
+# What goes by the time that something takes runs last, alone.
+ALONE = [long_runs_are_fast]
+# What asks a server of its own, or makes the page fail: its faults are its own.
+WITH_FAULTS = [hostile_inputs_are_harmless, live_page_runs, edits_are_the_tools, live_server_is_careful, live_bytes_are_run]
+MOST_BROWSERS = 3
+
+
+def work(browser):
+    """How many seconds of a processor the tests have taken so far: they themselves, what they ran, and the browser."""
+    return sum(os.times()[:4]) + browser.work()
+
+
+def run(one, browser):
+    """A test in a browser: how many checks passed and failed."""
     tests = Tests()
-    wanted = sys.argv[3:]
-    subprocess.run([os.path.join(TOP, "tools/page"), "--bare", "-o", BARE], check=True)
+    began, worked = time.monotonic(), work(browser)
+    try:
+        one(tests, browser)
+        if one not in WITH_FAULTS:
+            tests.same(f"{one.__name__}: faults of the page", browser.faults(), [])
+    except Exception as fault:  # a test that breaks off has failed, and the next ones go on
+        tests.holds(one.__name__, False, f"{type(fault).__name__}: {fault}")
+    if os.environ.get("HDMINET_TIMES"):
+        took = f"{time.monotonic() - began:.1f} s, {work(browser) - worked:.1f} s of a processor"
+        print(f"{one.__name__}: {took}", flush=True)
+    return tests.passed, tests.failed
+
+
+def run_some(waiting, told):
+    """Runs tests in a browser and a folder of its own, one after another, as long as one waits."""
+    global ROOM, BARE
+    ROOM = tempfile.mkdtemp(prefix="tests-", dir=ROOM)
+    BARE = os.path.join(ROOM, "bare.html")
+    TOOL.main(["--bare", "-o", BARE])
     browser = Browser(BROWSER)
     try:
-        for one in ALL:
-            if wanted and one.__name__ not in wanted:
-                continue
-            began = time.monotonic()
-            try:
-                one(tests, browser)
-                if one not in (hostile_inputs_are_harmless, live_page_runs, live_server_is_careful, live_bytes_are_run):
-                    tests.same(f"{one.__name__}: faults of the page", browser.faults(), [])
-            except Exception as fault:  # a test that breaks off has failed, and the next ones go on
-                tests.holds(one.__name__, False, f"{type(fault).__name__}: {fault}")
-            if os.environ.get("HDMINET_TIMES"):
-                print(f"{one.__name__}: {time.monotonic() - began:.1f} s")
+        for one in iter(waiting.get, None):
+            told.put(run(ALL[one], browser))
     finally:
         browser.close()
-    print(f"page: {tests.passed} passed, {tests.failed} failed")
-    sys.exit(1 if tests.failed else 0)
+
+
+def run_all(chosen, count):
+    """Runs tests in some browsers at once."""
+    fork = multiprocessing.get_context("fork")
+    waiting, told = fork.SimpleQueue(), fork.SimpleQueue()
+    for one in [*(ALL.index(one) for one in chosen), *[None] * count]:
+        waiting.put(one)
+    browsers = [fork.Process(target=run_some, args=(waiting, told), daemon=True) for _ in range(count)]
+    for one in browsers:
+        one.start()
+    for one in browsers:
+        one.join()
+    found = []
+    while not told.empty():
+        found.append(told.get())
+    if len(found) < len(chosen):
+        print(f"not ok: RuntimeError: {len(chosen) - len(found)} tests have not run to their end")
+        found.append((0, len(chosen) - len(found)))
+    return found
+
+
+def main():
+    signal.signal(signal.SIGTERM, lambda *_: sys.exit(1))
+    sys.stdout.reconfigure(line_buffering=True)
+    wanted = sys.argv[3:]
+    chosen = [one for one in ALL if not wanted or one.__name__ in wanted]
+    # Long ones first
+    first = [values_of_retries, bytes_are_the_programs, bytes_are_shown, live_page_runs, examples_have_pages, advice_is_shown]
+    together = sorted((one for one in chosen if one not in ALONE), key=lambda one: (one not in first, ALL.index(one)))
+    most = int(os.environ.get("HDMINET_BROWSERS") or min(os.cpu_count() or 1, MOST_BROWSERS))
+    found = run_all(together, min(most, len(together))) if together else []
+    found += [result for one in chosen if one in ALONE for result in run_all([one], 1)]
+    passed, failed = (sum(counts) for counts in zip(*found, (0, 0)))
+    print(f"page: {passed} passed, {failed} failed")
+    sys.exit(1 if failed else 0)
 
 
 main()

@@ -67,6 +67,15 @@ def hostile_inputs(program, room):
         line(line=f"= state {MARKUP}", type="state", device=MARKUP, kind=MARKUP, logical_addresses=[MARKUP], heard=MARKUP,
              active_source={"a": MARKUP}, physical_address="0.0.0.0", deck=MARKUP, osd_text=MARKUP),
         line(line=MARKUP, type="remark", remark=MARKUP, section=MARKUP, attempt="x"), line(type="note", note=5, attempt=-1)])]
+    frame = {"type": "frame", "line": MARKUP, "frame": MARKUP, "bytes": "4004", "initiator": "4", "destination": MARKUP, "opcode": "04", "name": MARKUP}
+    yield "what frames mean", [named, "\n".join([
+        line(type="meaning", line=MARKUP), line(**frame), line(type="meaning", line=f"  {MARKUP}", sender=MARKUP, receiver=MARKUP, operand=MARKUP),
+        line(type="frame", bytes=4, initiator=[], opcode={}, name=5), line(type="meaning", sender={"a": MARKUP}, receiver=[MARKUP], word=9),
+        line(**{**frame, "name": "deck-status", "bytes": "401b"}), line(type="meaning", operand=None, word=MARKUP)])]
+    yield "widths of no reading", ["\n".join([
+        line(type="widths", kind=MARKUP, least=MARKUP), line(**{**complete, "type": "reading"}, line=MARKUP),
+        line(type="widths", kind="start low", least=MARKUP, greatest=None), line(type="widths", kind=MARKUP, least=1e300, greatest=-1),
+        line(type="remark", remark="start-low", slot=MARKUP, least={}), line(type="remark", remark="bit-low", slot=1e9, least=400)])]
     yield "rules of no EDID", [f"fail {MARKUP}\n  {MARKUP}\n  here: {MARKUP}\n", f"warn x\n{MARKUP}\n"]
     part = {"type": "part", "block": 1, "byte": 4, "bytes": "e200cf", "name": MARKUP, "cut": 9e9, "left": MARKUP}
     field = {"type": "field", "block": 1, "byte": 4, "high": 7, "low": 5, "name": MARKUP, "value": 7, "meaning": MARKUP, "found": MARKUP}
@@ -158,11 +167,11 @@ def random_room(draw):
     return "\n".join(lines) + f"\nend {max(now, next_pulse) + 3000000}\n"
 
 
-def long_room():
-    """A room whose run has 20,000 rounds: 10,000 questions and their answers, and ten that nobody takes."""
+def long_room(questions=10000):
+    """A room whose run has 20,000 rounds: 10,000 questions and their answers, and ten that nobody takes; or of fewer questions."""
     lines = ["device tv tv 4", "device amp amp 3", "device p1 player 0", "plug amp tv 1", "plug p1 amp 1", "script"]
     frames = ["0>4 give-osd-name", "0>5 give-audio-status", "0>4 give-device-power-status"]
-    for number in range(10000):
+    for number in range(questions):
         frame = "0>9 give-deck-status once" if number % 997 == 400 else frames[number % 3]
         lines.append(f"at {4000000 + 400000 * number} send tv {frame}")
-    return "\n".join(lines) + "\nend 4005000000\n"
+    return "\n".join(lines) + f"\nend {5000000 + 400000 * questions}\n"

@@ -5,7 +5,8 @@ import re
 
 # HDMI 1.4 CEC, table 5
 ADDRESSES = ["TV", "Recording 1", "Recording 2", "Tuner 1", "Playback 1", "Audio System", "Tuner 2", "Tuner 3", "Playback 2",
-             "Recording 3", "Tuner 4", "Playback 3", "Reserved c", "Reserved d", "Specific Use", "unregistered"]
+             "Recording 3", "Tuner 4", "Playback 3", "the reserved address 12", "the reserved address 13", "Specific Use",
+             "an unregistered device"]
 # The windows of CEC 5.2.1 and 5.2.2, in the order in which the page has them
 WINDOWS = {"start low": (3500, 3900), "start total": (4300, 4700), "0 low": (1300, 1700), "1 low": (400, 800),
            "bit total": (2050, 2750)}
@@ -395,8 +396,6 @@ class Page:
         for one in self.run.timing[self.row["begin"], self.row["close"]]:
             if one["type"] == "widths":
                 found[KINDS[one["kind"]]] = (one["least"], one["greatest"])
-            if self.row["ending"] == "bad-start" and one["type"] == "remark" and one["remark"] == "start-low":
-                found["start low"] = (one["width"], one["width"])
         rows = []
         for name, (least, most) in WINDOWS.items():
             if name in found:
@@ -421,9 +420,10 @@ class Page:
                 if logical(self.after[name]) != logical(self.before[name])]
 
 
-# docs/run.md, the state line; CEC, Deck Info
-DECKS = {"11": "play", "14": "still", "17": "fast forward", "18": "fast reverse", "19": "no medium", "1a": "stop", "1b": "skip forward",
-         "1c": "skip reverse"}
+# docs/run.md, the state line; CEC 17, Deck Info
+DECKS = {"11": "play", "12": "record", "13": "play reverse", "14": "still", "15": "slow", "16": "slow reverse", "17": "fast forward",
+         "18": "fast reverse", "19": "no media", "1a": "stop", "1b": "skip forward", "1c": "skip reverse", "1d": "index search forward",
+         "1e": "index search reverse", "1f": "other"}
 
 
 def state_cell(key, value, opcodes):

@@ -2,7 +2,7 @@
 
 import { byId, duration, seconds, shortened, svg } from './elements.js';
 import { delayOf } from './answers.js';
-import { deviceAt } from './model.js';
+import { deviceAt, overOf } from './model.js';
 import { blockOf } from './slots.js';
 import { lowerBound } from './texts.js';
 import { meaningOf, verdictInWords } from './words.js';
@@ -160,7 +160,7 @@ export class Chart {
     const { selected } = this.app;
     const isInSight = selected && selected.place >= first && selected.place <= last;
     const now = isInSight ? selected : this.shown[last];
-    const at = now ? (now.until ?? now.at) : 0;
+    const at = now ? overOf(now) : 0;
     if (this.headsAt !== at) {
       this.heads.replaceChildren(this.headsPicture(at));
       this.headsAt = at;
@@ -206,7 +206,7 @@ export class Chart {
     [this.scrolled, this.seen] = [0, this.width];
     const to = this.shown.length - 1;
     const last = this.shown[to];
-    const heads = this.headsPicture(last ? (last.until ?? last.at) : 0);
+    const heads = this.headsPicture(last ? overOf(last) : 0);
     const body = this.picture(0, to);
     body.setAttribute('y', HEADS);
     this.drawn = null;
@@ -278,7 +278,7 @@ class RowPicture {
         this.add(svg('line', { class: cls, x1: this.x(i), x2: this.x(i), y1: from, y2: to }));
       };
       const before = deviceAt(lane, row.at - 1);
-      const after = deviceAt(lane, row.until ?? row.at);
+      const after = deviceAt(lane, overOf(row));
       if (before === after) {
         line(top, top + height, after);
       } else {
@@ -383,7 +383,10 @@ class RowPicture {
   /* A broken round stops in the open, and its text stands behind it. */
   drawBroken(x) {
     const { row, y, chart } = this;
-    const isLeft = x + 62 + widthOf(row.text) + 8 > chart.laneEnd;
+    const wide = 62 + widthOf(row.text) + 8;
+    const losers = row.losers.map(loser => this.x(loser.lane) - x);
+    const isClear = way => !losers.some(at => at * way > 0 && at * way < wide);
+    const isLeft = x + wide > chart.laneEnd || (!isClear(1) && isClear(-1) && x - wide > LEFT - MARGIN);
     const way = isLeft ? -1 : 1;
     const end = x + way * 56;
     this.path('arrow', `M${x} ${y}H${end - way * 14}l${3 * way} -6l${4 * way} 12l${4 * way} -12l${3 * way} 6`);

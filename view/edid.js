@@ -49,8 +49,8 @@ function ownName(at) {
   return at === BLOCK - 2 ? 'number of extensions' : 'no line of the text';
 }
 
-/* Stretches that tile the bytes: the data blocks, then the lines where none stands, with the fields of their bytes, then the other
-   parts, then what is left. A line may have no bytes. */
+/* Stretches that tile the bytes: the data blocks, then the lines where none stands, with the fields of their bytes, then the
+   other parts, then what is left. A line may have no bytes. */
 function stretchesOf({ lines, parts, bytes }) {
   const count = bytes.length;
   const owners = new Array(count).fill(null);

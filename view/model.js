@@ -4,8 +4,9 @@
 
 import { tieAnswers } from './answers.js';
 import { edidOf } from './edid.js';
-import { asList, asText, kindOf, lowerBound, readBytes, readDump, readEdges, readFindings, readObjects } from './texts.js';
-import { readRoom, readSentences, smoothed, turned } from './texts.js';
+import { SLOT } from './slots.js';
+import { asList, asText, begun, kindOf, lowerBound, readBytes, readDump, readEdges, readFindings, readObjects } from './texts.js';
+import { readRoom, smoothed, turned } from './texts.js';
 import { addressName } from './words.js';
 
 /* The logical addresses that each kind polls, by unit (docs/behaviour.md). A combo has two units. */
@@ -24,17 +25,17 @@ export const isWave = text => ['dump', 'edges'].includes(kindOf(text));
 export function build(texts) {
   const model = {
     title: '', objects: [], tests: [], stretches: [], meanings: [], faults: [], lanes: [], rows: [], rounds: [], states: [],
-    ports: [], events: [], sentences: new Map(), names: new Map(), wave: null, room: null, findings: [], bytes: [], parts: [],
-    edid: null, changes: [], ofAll: [], hasAudit: false, isCapture: false, end: 1,
+    ports: [], events: [], sentences: new Map(), names: new Map(), addresses: new Map(), decks: new Map(), wave: null,
+    room: null, findings: [], bytes: [], parts: [], edid: null, changes: [], ofAll: [], hasAudit: false, isCapture: false, end: 1,
   };
   const waves = [];
-  for (const one of texts) {
+  for (const given of texts) {
+    const one = isWave(given.text) ? given : { ...given, text: begun(given, model.faults) }; // a wave is read below
     const kind = kindOf(one.text);
     if (kind === 'objects') readObjects(one.text, model);
     else if (kind === 'dump' || kind === 'edges') waves.push(one);
     else if (kind === 'room') model.room = readRoom(one.text);
     else if (kind === 'meaning') model.meanings.push(one);
-    else if (kind === 'sentences') readSentences(one.text, model.sentences);
     else if (kind === 'findings') readFindings(one.text, model);
     else if (kind === 'bytes') model.bytes = readBytes(one.text);
     else if (kind === 'plain') model.faults.push(`${one.name}: a plain text of the program; give the flag --json`);
@@ -48,7 +49,6 @@ export function build(texts) {
   if (!model.isCapture) addAudit(model);
   addLanes(model);
   addRows(model);
-  for (const { bytes, frame } of model.rounds) if (bytes.length > 2) model.names.set(bytes.slice(2, 4), frame.split(' ')[1]);
   model.rounds.sort((a, b) => a.begin - b.begin);
   tieAnswers(model);
   model.end = Math.max(...model.rows.slice(-3).map(row => row.until || row.at), 1);
@@ -67,14 +67,16 @@ function addAudit(model) {
   if (readings.size === 0) return;
   model.objects = model.objects.filter(o => o.type !== 'reading');
   for (const o of model.objects) {
-    const { remarks, notes } = (o.type === 'round' && readings.get(key(o))) || {};
-    if (remarks) [o.remarks, o.notes] = [remarks, notes];
+    const { remarks, notes, widths } = (o.type === 'round' && readings.get(key(o))) || {};
+    if (remarks) [o.remarks, o.notes, o.widths] = [remarks, notes, widths];
   }
 }
 
 /* Adds a wave, which is the longest of the texts to read; `how` says by which flags the capture was read. */
-export function addWave(model, { name, text, how }) {
+export function addWave(model, one) {
+  const { name, how } = one;
   const { signal, glitch, invert } = how || {};
+  const text = begun(one, model.faults);
   const wave = kindOf(text) === 'dump' ? readDump(text, signal) : readEdges(text);
   if (!wave) {
     model.faults.push(`${name}: a dump without a wire or a time scale`);
@@ -111,7 +113,7 @@ function addLanes(model) {
   if (model.isCapture) {
     const seen = new Set(model.objects.map(senderOf).filter(Boolean));
     for (const o of model.objects) if (/^[0-9a-e]$/.test(o.destination || '') && o.verdict === 'ack') seen.add(o.destination);
-    for (const address of [...seen].sort()) add(address, addressName(address));
+    for (const address of [...seen].sort()) add(address, addressName(model, address).replace(' Device ', ' '));
     return;
   }
   for (const state of model.states) add(state.device, state.kind);
@@ -239,16 +241,20 @@ class Holders {
   }
 }
 
+/* When all that a row does is done: of a round that was acknowledged the line rises after its close. */
+export const overOf = row => row.over ?? row.until ?? row.at;
+
 /* Writes down what the program says of each device over time: what it says before an instant is so since the last round or event
-   was over. */
+   ended, or, where it was asked within a slot of that end, since then. */
 function addHistory(model) {
   const ends = model.objects.filter(o => ['round', 'event'].includes(o.type)).map(o => o.close ?? o.at).sort((a, b) => a - b);
   for (const { before, state } of model.changes) {
     const lane = model.lanes[model.laneOf.get(state.device)];
     if (!lane) continue;
-    const at = ends[lowerBound(ends, before) - 1] ?? -1;
+    const end = ends[lowerBound(ends, before) - 1] ?? -1;
+    const at = before - 1 - end < SLOT ? before - 1 : end;
     const logical = state.logical.filter(Boolean).join('+');
-    const entry = { at, logical, isJoined: state.physical !== '', physical: state.physical, state };
+    const entry = { at, end, logical, isJoined: state.physical !== '', physical: state.physical, state };
     if (lane.history.length > 0 && lane.history.at(-1).at === at) lane.history.pop();
     lane.history.push(entry);
   }
@@ -263,9 +269,10 @@ function addAddresses(model) {
     if (row.type === 'round' || (row.type === 'event' && !(isFirm && !PLUGS.test(row.text)))) ended.set(at, row);
   }
   model.lanes.forEach((lane, index) => {
-    for (const { at, logical, isJoined } of lane.history) {
+    for (const { at, end, logical, isJoined } of lane.history) {
       const shown = isJoined ? logical : '';
-      const row = ended.get(at);
+      const row = ended.get(end);
+      if (row) row.over = Math.max(overOf(row), at);
       if (row && shown !== lane.shown) row.changes.push({ lane: index, text: shown || '–', was: lane.shown });
       lane.shown = shown;
     }

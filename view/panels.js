@@ -7,7 +7,7 @@ import { whyStopped } from './chart.js';
 import { counted, duration, html, link, seconds, svg, table } from './elements.js';
 import { senderOf } from './model.js';
 import { drawRoom, hasRoom } from './room.js';
-import { acknowledgersOf, blockOf, freeBefore, isWithin, lowWindow, partOf, slotsOf, WINDOWS } from './slots.js';
+import { acknowledgersOf, blockOf, freeBefore, isOut, partOf, slotsOf, WINDOWS } from './slots.js';
 import { addressInWords, CAUSES, expectOf, meaningOf, partyName, stateWord } from './words.js';
 
 const MOST_LISTED = 500;
@@ -110,7 +110,7 @@ function blocks(model, round) {
   const isBroadcast = round.destination === 'f';
   const isOfText = /^..(47|64|67|32)/.test(round.bytes);
   const meaning = (byte, i) => {
-    if (i === 0) return `${addressInWords(byte[0])} to ${isBroadcast ? 'all' : addressInWords(byte[1])}`;
+    if (i === 0) return `${addressInWords(model, byte[0])} to ${isBroadcast ? 'all' : addressInWords(model, byte[1])}`;
     if (i === 1) return model.names.get(byte) || '';
     const code = parseInt(byte, 16);
     return isOfText && code >= 0x20 && code < 0x7f ? `'${String.fromCharCode(code)}'` : '';
@@ -131,47 +131,39 @@ const span = (least, most) => (least === most ? String(least) : `${least}..${mos
 /* Whether the fall after a slot came too early, and ended the round. */
 const isEnd = (round, slot) => round.ending === 'short' && slot.at + slot.total === round.close;
 
-/* Which widths of a round are in the windows of CEC 5.2, and each slot as a table. */
+/** The kinds of widths: what the program calls each, the page, and the remark on one that is out of its window of CEC 5.2.
+    @type {[string, string, string, number[]][]} */
+const KINDS = [
+  ['start low', 'start low', 'start-low', WINDOWS.startLow], ['start total', 'start total', 'start-total', WINDOWS.startTotal],
+  ['zero low', '0 low', 'bit-low', WINDOWS.zero], ['one low', '1 low', 'bit-low', WINDOWS.one],
+  ['bit total', 'bit total', 'bit-total', WINDOWS.total],
+];
+/* The widths of a round as `mon --timing` has them. What is out of its window is remarked. */
+function measured({ widths: seen, remarks }) {
+  return KINDS.flatMap(([kind, name, remark, window]) => {
+    const isRemarked = remarks.some(one => one.kind === remark && one.least === window[0]);
+    const line = ({ least, greatest }) => [name, span(least, greatest), window.join('..'), isRemarked ? bad('out') : 'in'];
+    return seen.filter(one => one.kind === kind).map(line);
+  });
+}
+
+/* The widths of a round, and each slot as a table. */
 function widths(model, round) {
   const slots = slotsOf(model, round);
-  if (!slots) {
-    if (!model.wave || round.ending === 'joined') return null;
-    return dim('The wave is not the line that this was read of: another run, or pulses that --glitch left out.');
-  }
-  /** @type {[string, number[]][]} */
-  const windows = [
-    ['start low', WINDOWS.startLow], ['start total', WINDOWS.startTotal], ['0 low', WINDOWS.zero],
-    ['1 low', WINDOWS.one], ['bit total', WINDOWS.total],
-  ];
-  const kinds = windows.map(([name, window]) => ({ name, window, seen: [] }));
-  const faults = [];
-  slots.forEach((slot, i) => {
-    const put = ({ name, window, seen }, width) => {
-      seen.push(width);
-      const where = i === 0 ? 'start' : `slot ${i} block ${blockOf(i)} ${partOf(i)}`;
-      if (!isWithin(width, window)) faults.push(`${where}: ${name} ${width}`);
-    };
-    put(kinds[i === 0 ? 0 : slot.bit ? 3 : 2], slot.low);
-    if (slots[i + 1] || isEnd(round, slot)) put(kinds[i === 0 ? 1 : 4], slot.total);
-  });
-  const rows = kinds.filter(kind => kind.seen.length > 0).map(({ name, window, seen }) => {
-    const isIn = seen.every(width => isWithin(width, window));
-    return [name, span(Math.min(...seen), Math.max(...seen)), window.join('..'), isIn ? 'in' : bad('out')];
-  });
-  const free = freeBefore(model, round);
+  const isOther = !slots && model.wave && round.ending !== 'joined';
+  const free = slots && freeBefore(model, round);
   const asked = free >= 7200 ? ' (7200 to send again, 12000 for a new initiator, 16800 for the last one)' : '';
   return [
-    html('h3', {}, 'Widths, in µs'),
-    table(rows, ['', 'seen', 'allowed', '']),
+    round.widths.length > 0 && [html('h3', {}, 'Widths, in µs'), table(measured(round), ['', 'seen', 'allowed', ''])],
+    isOther && dim('The wave is not the line that this was read of: another run, or pulses that --glitch left out.'),
     free !== null && html('p', {}, `The line was high for ${free} µs before${asked}.`),
-    faults.length > 0 && html('ul', { class: 'bad' }, faults.slice(0, 12).map(fault => html('li', {}, fault))),
-    html('details', {}, html('summary', {}, 'Each slot'), slotTable(round, slots)),
+    slots && html('details', {}, html('summary', {}, 'Each slot'), slotTable(round, slots)),
   ];
 }
 function slotTable(round, slots) {
   const rows = slots.map(({ bit, low, total }, i) => [
     i === 0 ? 'start' : `block ${blockOf(i)} ${partOf(i)}`, i === 0 ? '' : bit,
-    isWithin(low, lowWindow(i, bit)) ? low : bad(String(low)), slots[i + 1] || isEnd(round, slots[i]) ? total : '',
+    isOut(round, i) ? bad(String(low)) : low, slots[i + 1] || isEnd(round, slots[i]) ? total : '',
   ]);
   return table(rows, ['slot', 'bit', 'low', 'total']);
 }
@@ -432,8 +424,8 @@ const COMMANDS = [
   ['./hdminet run --edges --as vcd --drives < x.net > x.vcd', 'the wave, and who pulls'],
   ['x.net', 'what the events say, and plugs'],
   ['./hdminet check --json < x.test > report.jsonl', 'a report of tests'],
-  ['./hdminet mon --audit --json < capture.vcd > x.jsonl', 'a capture and its audit: also capture.vcd itself'],
-  ['./hdminet dis --meaning < frames.hex > x.meant', 'what frames mean, by their bytes in hex'],
+  ['./hdminet mon --timing --json < capture.vcd > x.jsonl', 'a capture, its audit and widths: also capture.vcd itself'],
+  ['./hdminet dis --meaning --json < frames.hex > x.meant', 'what frames mean, by their bytes in hex'],
   ['tv.edid', 'an EDID, its bytes; also in hex, as xxd -p writes it'],
   ['./hdminet edid --meaning < tv.edid > tv.meaning', 'what its lines mean'],
   ['./hdminet edid --json < tv.edid > tv.fields', 'of which field each bit is'],

@@ -10,7 +10,9 @@ export const WINDOWS = {
   zero: [1300, 1700],
   total: [2050, 2750],
 };
-export const isWithin = (width, window) => width >= window[0] && width <= window[1];
+/* Whether the audit has a slot's low stretch out of its window. */
+export const isOut = ({ remarks }, slot) =>
+  remarks.some(one => (slot === 0 ? one.kind === 'start-low' : one.kind === 'bit-low' && one.slot === slot));
 
 /* How long after its fall a bit is read. */
 const SAMPLE = 1050;

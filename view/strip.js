@@ -143,7 +143,7 @@ export class Strip {
     pen.textBaseline = 'middle';
     for (let t = 0; t <= app.model.end; t += step) {
       const x = Math.round(this.x(t));
-      pen.fillRect(x, AXIS, 1, 3);
+      pen.fillRect(x, AXIS - 4, 1, 4);
       const text = shortSeconds(t, step);
       if (x + 3 + text.length * 6.1 < width) pen.fillText(text, x + 3, AXIS + 7);
     }

@@ -1,6 +1,15 @@
 // The texts that the program writes and reads, from characters to plain values. Nothing here draws, and nothing trusts its
 // input: each field is brought to its type in one place, and a line that is none of the program's is counted and named.
 
+/* How long a text may be, in characters. */
+export const LIMITS = { text: 1 << 28 };
+/* A text, or the lines at the begin of one that is too long, which is noted. */
+export function begun({ name, text, isCut }, faults) {
+  const isLong = text.length > LIMITS.text;
+  if (isLong || isCut) faults.push(`${name}: too long; its begin is shown`);
+  return isLong ? text.slice(0, text.lastIndexOf('\n', LIMITS.text) + 1) : text;
+}
+
 const MOST_OF_EDID = 4 * 128; // bytes
 const isHexOfEdid = text =>
   text.length < 4 * MOST_OF_EDID && /^\s*00\s*(ff\s*){6}00/i.test(text) && /^[0-9a-f]*$/i.test(text.replace(/\s/g, ''));
@@ -13,8 +22,7 @@ export function kindOf(text) {
   if (/^edid 1\.\d/.test(first)) return 'meaning';
   if (isHexOfEdid(text)) return 'bytes';
   if (/^(warn|fail) [a-z-]+/.test(first)) return 'findings';
-  if (/^[0-9a-f]>[0-9a-f]( |$)/.test(first)) return 'sentences';
-  if (/^TAP version|^\d+ event \d|^\d+ port \w/.test(first)) return 'plain';
+  if (/^TAP version|^\d+ event \d|^\d+ port \w|^[0-9a-f]>[0-9a-f]( |$)/.test(first)) return 'plain';
   if (/^\d+ \d+ (complete|short|silent|bad-start|long|open|joined) /.test(first)) return 'plain';
   if (/^script$/m.test(text)) return 'room';
   if (/^\d+ (0|1|end)$/.test(first) || (first.startsWith('#') && /^\d+ [01]$/m.test(text))) return 'edges';
@@ -23,6 +31,9 @@ export function kindOf(text) {
 
 /* Whether objects are those of an audit: beside a run they tell of its rounds. */
 export const isAudit = text => kindOf(text) === 'objects' && /"type":"(summary|remark|note)"/.test(text);
+
+/* Whether objects are those of frames and of what they mean. */
+export const isOfFrames = text => kindOf(text) === 'objects' && /"type":"(frame|meaning)"/.test(text.slice(0, 2000));
 
 /* Whether objects are those of an EDID: its fields, or the rules that it breaks. */
 export const isOfBytes = text => kindOf(text) === 'objects' && /"type":"(part|finding)"/.test(text.slice(0, 2000));
@@ -41,13 +52,14 @@ function addHead(object, room) {
   if (type === 'plug') room.plugs.push([device, parent, port]);
 }
 
-/* The sentences of `dis --meaning` by the text of their frame. A remark after the text is not a part of it. */
-export function readSentences(text, sentences) {
-  let frame = '';
-  for (const line of text.split('\n')) {
-    if (line.startsWith('  ')) sentences.set(frame, line.slice(2));
-    else frame = line.replace(/ # [^ "]+$/, '');
-  }
+/* Takes what the program says of a frame: its sentence, and the names of its opcode, of addresses and of what a deck does. */
+function addMeaning(model, frame, { line, sender, receiver, operand, word }) {
+  const { bytes, initiator, destination, opcode, name } = frame;
+  model.sentences.set(bytes, line.trim());
+  if (opcode && name) model.names.set(opcode, name);
+  if (sender) model.addresses.set(initiator, sender);
+  if (receiver && destination !== 'f') model.addresses.set(destination, receiver);
+  if (name === 'deck-status') model.decks.set(bytes.slice(4), operand || word);
 }
 
 /* A rule that an EDID breaks, by its line: that of the objects of `edid --check --json` is that of the words beside it. */
@@ -87,13 +99,21 @@ export function readBytes(text) {
 function addTold(object, model, last) {
   const { type, line } = object;
   if (type === 'remark' || type === 'note') {
-    const said = { text: line.trim(), kind: object.kind, section: object.section, attempt: object.attempt };
+    const { kind, section, attempt, slot, least } = object;
+    const said = { text: line.trim(), kind, section, attempt, slot, least };
     if (last.reading) last.reading[`${type}s`].push(said);
     else model.ofAll.push(said.text);
   } else if (type === 'summary') {
     last.reading = null;
+  } else if (type === 'widths' && last.reading) {
+    const { kind, least, greatest } = object;
+    last.reading.widths.push({ kind, least, greatest });
   } else if (type === 'sender' || type === 'widths') {
     if (!last.reading) model.ofAll.push(line.trim());
+  } else if (type === 'frame') {
+    last.frame = object;
+  } else if (type === 'meaning') {
+    if (last.frame) addMeaning(model, last.frame, object);
   } else if (type === 'horizon') {
     last.horizon = object.at;
   } else if (type === 'state' && line.startsWith('= ')) {
@@ -104,11 +124,12 @@ function addTold(object, model, last) {
   }
 }
 
+const VERSION = 13; // of a report
 /* Objects of JSON, one a line (docs/formats.md, "Objects of JSON"), put into a model. */
 export function readObjects(text, model) {
   let inReport = false; // below a test stand the rounds that it saw, up to the object `trace`
   let test = null;
-  const last = { reading: null, horizon: null };
+  const last = { reading: null, horizon: null, frame: null };
   const unknown = new Map(); // types of a later program, by how many there are
   text.split('\n').forEach((line, index) => {
     if (line.trim() === '') return;
@@ -126,6 +147,8 @@ export function readObjects(text, model) {
       model.faults.push(`line ${index + 1} is no object of the program: ${line.slice(0, 60)}`);
     } else if (object.type === 'version') {
       inReport = true;
+      const { version } = object;
+      if (version !== VERSION) model.faults.push(`a report of version ${version}; this page reads version ${VERSION}`);
     } else if (object.type === 'trace') {
       inReport = false;
     } else if (object.type === 'test') {
@@ -189,6 +212,8 @@ function cleaned(o) {
     }
     case 'end':
       return { type, line, at: asNumber(o.at) };
+    case 'version':
+      return { type, line, version: asNumber(o.version) };
     case 'test': {
       const [text, refused] = [asText(o.expectation), asText(o.refused)];
       const [test, scriptLine] = [asNumber(o.test), asNumber(o.script_line)];
@@ -204,7 +229,20 @@ function cleaned(o) {
       return { type, line, device: asText(o.device), parent: asText(o.parent), port: asText(o.port) };
     case 'remark':
     case 'note':
-      return { type, line, kind: asText(o[type]), section: asText(o.section), attempt: asNumber(o.attempt) };
+      return {
+        type, line, kind: asText(o[type]), section: asText(o.section), attempt: asNumber(o.attempt), slot: asNumber(o.slot),
+        least: asNumber(o.least),
+      };
+    case 'widths':
+      return { type, line, kind: asText(o.kind), least: asNumber(o.least), greatest: asNumber(o.greatest) };
+    case 'frame': {
+      const [initiator, destination, opcode, name] = [o.initiator, o.destination, o.opcode, o.name].map(asText);
+      return { type, line, bytes: asText(o.bytes), initiator, destination, opcode, name };
+    }
+    case 'meaning':
+      return {
+        type, line, sender: asText(o.sender), receiver: asText(o.receiver), operand: asText(o.operand), word: asText(o.word),
+      };
     case 'horizon':
       return { type, line, at: asNumber(o.at) };
     case 'finding':
@@ -222,14 +260,12 @@ function cleaned(o) {
     }
     case 'summary':
     case 'sender':
-    case 'widths':
     case 'edge':
     case 'refusal':
     case 'edid':
     case 'pulse':
     case 'pull':
     case 'pin':
-    case 'version':
     case 'trace':
     case 'plan':
     case 'other':
@@ -255,7 +291,7 @@ function cleanedRound(type, line, o) {
     bits: asText(o.bits),
     by: asList(o.by).map(asText),
     out: asList(o.out).map(x => ({ device: asText(x && x.device), slot: asNumber(x && x.slot) })),
-    remarks: [], notes: [], row: null, slots: null, slotsOf: null,
+    remarks: [], notes: [], widths: [], row: null, slots: null, slotsOf: null,
   };
 }
 

@@ -5,11 +5,11 @@ import { ByteMap } from './bytes.js';
 import { asMermaid, Chart } from './chart.js';
 import { byId, counted, html } from './elements.js';
 import { finder, makeReady } from './find.js';
-import { addWave, build, isWave } from './model.js';
+import { addWave, build, deviceAt, isWave } from './model.js';
 import { commands, drawSweep, help, PANELS } from './panels.js';
 import { acknowledgersOf, slotsOf } from './slots.js';
 import { nearest, Strip, timeInAddress } from './strip.js';
-import { asText, isAudit, isOfBytes, kindOf, readDump } from './texts.js';
+import { asText, isAudit, isOfBytes, isOfFrames, kindOf, LIMITS, readDump } from './texts.js';
 import { meaningOf } from './words.js';
 import { Wave, wavesHeight } from './wave.js';
 
@@ -194,6 +194,7 @@ class App {
     this.map.show(model.edid);
     const { isOfEdid } = this;
     document.body.classList.toggle('edid', isOfEdid);
+    document.body.classList.toggle('bare', texts.length === 0);
     byId('chart').hidden = isOfEdid;
     byId('bytes').hidden = !isOfEdid;
     byId('bytes').replaceChildren(...(isOfEdid ? [this.map.root] : []));
@@ -242,17 +243,20 @@ class App {
     else wave.showAll();
   }
   async loadFiles(files) {
-    const texts = await Promise.all([...files].map(async file => ({ name: file.name, text: await readFile(file) })));
+    const isCut = file => file.size > LIMITS.text;
+    const readOne = async file => ({ name: file.name, text: await readFile(file), isCut: isCut(file) });
+    const texts = await Promise.all([...files].map(readOne));
     if (texts.length > 0) await this.loadGiven(texts);
   }
   /* Objects are a new run, and bytes another EDID where there is one. Anything else is added to what is there, also the audit of
-     a run's line and the fields of an EDID. */
+     a run's line, what frames mean and the fields of an EDID. */
   loadGiven(texts) {
     this.data = null;
     this.reading = 0;
     this.showBanner();
     const isRun = this.model.rounds.length > 0 && !this.model.isCapture;
-    const isMore = ({ text }) => kindOf(text) !== 'objects' || isOfBytes(text) || (isRun && isAudit(text));
+    const isAdded = text => kindOf(text) !== 'objects' || isOfBytes(text) || isOfFrames(text);
+    const isMore = ({ text }) => isAdded(text) || (isRun && isAudit(text));
     const isAnother = this.model.bytes.length > 0 && texts.some(({ text }) => kindOf(text) === 'bytes');
     return this.load(texts, this.texts.length > 0 && !isAnother && texts.every(isMore));
   }
@@ -621,9 +625,9 @@ class App {
   }
 }
 
-/* The text of a file; of an EDID that is bytes these in hex. */
+/* The text of a file, or the begin of one that is too long; of an EDID that is bytes these in hex. */
 async function readFile(file) {
-  const bytes = new Uint8Array(await file.arrayBuffer());
+  const bytes = new Uint8Array(await file.slice(0, LIMITS.text).arrayBuffer());
   const isEdid = [0, 255, 255, 255, 255, 255, 255, 0].every((byte, i) => bytes[i] === byte);
   return isEdid ? [...bytes].map(byte => byte.toString(16).padStart(2, '0')).join('') : new TextDecoder().decode(bytes);
 }
@@ -715,4 +719,4 @@ loadEmbedded(app).catch(fault => {
   app.say(`the data of this page cannot be read: ${fault.message}`);
 });
 /* For the console of the browser, and for tests. */
-window.hdminet = { app, PANELS, acknowledgersOf, kindOf, meaningOf, readDump, slotsOf };
+window.hdminet = { app, PANELS, acknowledgersOf, deviceAt, kindOf, LIMITS, meaningOf, readDump, slotsOf };

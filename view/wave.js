@@ -2,7 +2,7 @@
 
 import { CHARACTER } from './chart.js';
 import { seconds, shortened } from './elements.js';
-import { blockOf, isWithin, lowWindow, partOf, pullersAt, SLOT, slotsOf, WINDOWS } from './slots.js';
+import { blockOf, isOut, lowWindow, partOf, pullersAt, SLOT, slotsOf, WINDOWS } from './slots.js';
 import { stepOf } from './strip.js';
 import { lowerBound } from './texts.js';
 
@@ -389,9 +389,8 @@ export class Wave {
       if (to < NAMES || from > this.width) return;
       pen.strokeStyle = colours.rule;
       pen.strokeRect(Math.round(from) + 0.5, top + 0.5, Math.round(to - from), 20);
-      const isOut = !isWithin(slot.low, lowWindow(i, slot.bit));
       const isHandshake = i > 0 && (i - 1) % 10 >= 8;
-      pen.fillStyle = isOut ? colours.broken : i === 0 ? colours.dim : isHandshake ? colours.event : colours.ink;
+      pen.fillStyle = isOut(round, i) ? colours.broken : i === 0 ? colours.dim : isHandshake ? colours.event : colours.ink;
       const start = to - from > 36 ? 'start' : 'S';
       const text = i === 0 ? start : isHandshake && slotPixels > 34 ? `${partOf(i)} ${slot.bit}` : String(slot.bit);
       const width = text.length * CHARACTER;

@@ -1,15 +1,13 @@
-// Addresses, causes and endings in words: these tables are the page's own. What a frame means the program says (`dis --meaning`).
+// Causes and endings in words: these tables are the page's own. What a frame means, and what an address and what a deck does are
+// called, the program says (`dis --meaning --json`).
 
 import { asciiOf, deviceAt } from './model.js';
 import { asText } from './texts.js';
 
-const ADDRESSES = [
-  'TV', 'Recording 1', 'Recording 2', 'Tuner 1', 'Playback 1', 'Audio System', 'Tuner 2', 'Tuner 3', 'Playback 2', 'Recording 3',
-  'Tuner 4', 'Playback 3', 'Reserved c', 'Reserved d', 'Specific Use', 'unregistered',
-];
-export const addressName = digit => ADDRESSES[parseInt(digit, 16)];
-/* The same as the standard and the program's sentences have it, where there is room. */
-export const addressInWords = digit => addressName(digit).replace(/^(Recording|Playback) /, '$1 Device\u00a0');
+/* What the program's sentences call an address. A page without them has its digit. */
+export const addressName = ({ addresses }, digit) => addresses.get(digit) || `address ${digit}`;
+/* The same on one line. */
+export const addressInWords = (model, digit) => addressName(model, digit).replace('Device ', 'Device\u00a0');
 
 export const CAUSES = {
   __proto__: null,
@@ -64,13 +62,13 @@ export function meaningOf(round, model) {
     return `The sender stopped there, since ${why} the block. What it wanted to say is not on the line.`;
   }
   const sentence = sentenceOf(round, model);
-  const said = model.sentences.has(round.frame) ? sentence[0].toUpperCase() + sentence.slice(1) : sentence;
+  const said = model.sentences.has(round.bytes) ? sentence[0].toUpperCase() + sentence.slice(1) : sentence;
   return round.bytes.length === 2 && round.initiator === round.destination ? `${said} ${pollAnswer(round)}` : said;
 }
 
 /* The program's sentence for a frame, with who is at the physical addresses in it; the frame's text where there is none. */
 function sentenceOf(round, model) {
-  const sentence = model.sentences.get(round.frame);
+  const sentence = model.sentences.get(round.bytes);
   if (!sentence) return round.frame;
   if (sentence.includes('"')) return `${sentence}.`;
   const place = physical => {
@@ -91,14 +89,10 @@ export function partyName(model, lane, instant) {
   return then && then.logical ? `${name} (${then.logical})` : name;
 }
 
-const DECKS = {
-  __proto__: null, 11: 'play', 14: 'still', 17: 'fast forward', 18: 'fast reverse', 19: 'no medium', '1a': 'stop',
-  '1b': 'skip forward', '1c': 'skip reverse',
-};
 /* A field of a state in words. */
 export function stateWord(model, key, value) {
   if (value === null || value === undefined) return '–';
-  if (key === 'deck') return DECKS[value] || asText(value);
+  if (key === 'deck') return (model.decks.get(value) || asText(value)).replaceAll('-', ' ');
   if (key === 'menu_language' || key === 'osd_text') return asciiOf(value);
   if (typeof value === 'boolean') return value ? 'on' : 'off';
   if (Array.isArray(value)) return value.map(one => one ?? '–').join('+');
