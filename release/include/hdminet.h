@@ -1,13 +1,14 @@
-/* Calls of hdminet that are proved and take memory: the emulator, the report of a script's expectations, the readings of an
-   edge file, and of EDIDs their bytes, their check and their meaning. hdminet_wire.h has the others, and what callers promise:
+/* Calls of hdminet that are proved and take memory: the emulator, sessions, the report of a script's expectations, the readings of
+   an edge file, and of EDIDs their bytes, their check and their meaning. hdminet_wire.h has the others, and what callers promise:
    it holds here too.
 
-   These calls take memory by the program's malloc, realloc and free, and give all of it back before they return. The
-   caller promises besides:
+   These calls take memory by the program's malloc, realloc and free, and give all of it back before they return, but for what a
+   session keeps until it is closed. The caller promises besides:
    - The three functions are of one allocator, and align a block as C asks for.
    - No call comes from a signal handler, nor from the forked child of a process with threads.
    - The stack has 80 KB left, for hdminet_edid_meaning 96 and for hdminet_edid_bytes 128: the emulator takes some 60 KB of it.
      A thread of 192 KB will do for the calls of this header and of hdminet_wire.h.
+   - An hdminet_live begins as HDMINET_LIVE_CLOSED, and is as the last call left it, also after a copy, of which one is used.
    Where memory runs out, HDMINET_MEMORY is the answer. */
 #ifndef HDMINET_H
 #define HDMINET_H
@@ -74,6 +75,42 @@ hdminet_answer hdminet_emulate_edges(const uint8_t *topology, size_t topology_le
    they have it, in the Test Anything Protocol. Sets *counts, also where the room is too small. */
 hdminet_answer hdminet_check(const uint8_t *topology, size_t topology_length, const uint8_t *script, size_t script_length,
                              uint8_t *room, size_t room_length, hdminet_counts *counts);
+
+/* A session (docs/live.md): a run whose script comes line by line. Its caller keeps it where it likes, hands it to one call at a
+   time, and reads nothing in it but is_open. It lies in memory of the library, between calls too, which hdminet_live_close gives back.
+   Several sessions are apart from each other: threads may each have theirs. */
+typedef struct hdminet_live {
+    bool is_open; /* whether a session is open */
+    void *at;     /* where it lies */
+} hdminet_live;
+
+/* No session, which the calls below are handed first: `hdminet_live live = HDMINET_LIVE_CLOSED;`. */
+#define HDMINET_LIVE_CLOSED {0}
+
+/* Opens a session of a topology, in the place of the one that is open, and puts into the room what stands before its first answer:
+   nothing, where the topology has no EDID. Refused as hdminet_emulate refuses the topology, or where memory runs out; then nothing has
+   changed. Where the room is too small (HDMINET_ROOM) the session is open, and hdminet_live_again has the text. */
+hdminet_answer hdminet_live_open(hdminet_live *live, const uint8_t *topology, size_t topology_length, uint8_t *room,
+                                 size_t room_length);
+
+/* Answers a line, which has no end in it: puts into the room what `hdminet live` writes for it, up to its answer and with that. The
+   texts of all lines, one after another, are what it writes of them. Where the room is too small (HDMINET_ROOM) the line is taken, and
+   hdminet_live_again has its text. HDMINET_CLOSED where no session is open, or its script has ended, and HDMINET_LINE change nothing;
+   after HDMINET_MEMORY the session is closed. */
+hdminet_answer hdminet_live_line(hdminet_live *live, const uint8_t *line, size_t line_length, uint8_t *room, size_t room_length);
+
+/* The same of a line `pin T 0`, or `pin T 1`: from t on, in microseconds, the pin pulls the line low, or lets it go. A t that the line
+   can't have is refused by the session, as `! 4 number`. */
+hdminet_answer hdminet_live_pin(hdminet_live *live, uint64_t t, bool is_low, uint8_t *room, size_t room_length);
+
+/* The same of a line `edge T`: goes on up to the microsecond after the next edge of the line, at most to t, in microseconds. */
+hdminet_answer hdminet_live_edge(hdminet_live *live, uint64_t t, uint8_t *room, size_t room_length);
+
+/* Puts once more into the room what the last of these calls put, or would have put. HDMINET_CLOSED where no session is open. */
+hdminet_answer hdminet_live_again(hdminet_live *live, uint8_t *room, size_t room_length);
+
+/* Closes the session that is open, and gives its memory back. */
+void hdminet_live_close(hdminet_live *live);
 
 /* Puts the lines of what was read on the line of an edge file into the room. */
 hdminet_answer hdminet_watch(const uint8_t *edges, size_t edges_length, uint8_t *room, size_t room_length);

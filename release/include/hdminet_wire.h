@@ -24,7 +24,7 @@ extern "C" {
 
 /* The version of these calls: a thousand times the major version, and the minor one. The minor version rises where calls or numbers
    are added, the major one where something that was there changes (docs/library.md). */
-#define HDMINET_VERSION 1000
+#define HDMINET_VERSION 1001
 
 /* How a call went. */
 enum hdminet_code {
@@ -34,6 +34,8 @@ enum hdminet_code {
     HDMINET_LATE = 3,   /* the instant is after 3,000,000,000,000 microseconds */
     HDMINET_ABSENT = 4, /* there is none */
     HDMINET_HEARD = 5,  /* what was heard is nothing that a receiver tells */
+    HDMINET_CLOSED = 6, /* no session is open, or its script has ended */
+    HDMINET_LINE = 7,   /* the line of a session has an end in it, or more than 4,096 bytes */
 
     HDMINET_FRAME_EMPTY = 10,    /* a frame has at least one byte */
     HDMINET_FRAME_TOO_LONG = 11, /* a frame has at most 16 bytes */
