@@ -1,8 +1,8 @@
 //! Each call of hdminet_library once, with what it writes, and once with a refusal.
 use hdminet_library::{
-    AssembleError, At, EdidError, EdidToTextError, EmulateError, FrameLinesError, StepRunError,
-    TextToHexError, TopologyCause, WatchError, Writes, asm_lines, edid_to_text, emulate,
-    emulate_edges, step_run, text_to_hex, watch,
+    AssembleError, At, EdidError, EdidToTextError, EmulateError, Form, FrameLinesError,
+    StepRunError, TextToHexError, TopologyCause, WatchError, Writes, asm_lines, edid_to_text,
+    emulate, emulate_edges, step_run, text_to_hex, watch,
 };
 use std::alloc::Global;
 use std::process::Abort;
@@ -125,6 +125,7 @@ fn steps(rt: &impl Abort, alloc: Global) {
     let mut bytes = Vec::new(alloc);
     let answer = step_run(
         alloc,
+        Form::Text,
         TOPOLOGY,
         SCRIPT,
         b"round\nuntil break\n",
@@ -220,7 +221,7 @@ fn each_call_refuses_for_its_cause(rt: HostRuntime) {
     let out = &mut Writes::new(&mut bytes);
     assert!(&rt; is_word(emulate(alloc, b"frob\n", SCRIPT, out)));
     assert!(&rt; is_word(emulate_edges(alloc, b"frob\n", SCRIPT, out)));
-    assert!(&rt; is_no_step(step_run(alloc, TOPOLOGY, SCRIPT, b"frob\n", out)));
+    assert!(&rt; is_no_step(step_run(alloc, Form::Text, TOPOLOGY, SCRIPT, b"frob\n", out)));
     assert!(&rt; is_no_frame(asm_lines(b"4>4\n4>0 frob\n", out)));
     assert!(&rt; is_no_edge(watch(alloc, b"frob\n", out)));
     assert!(&rt; is_short(edid_to_text(b"", out)));
