@@ -66,7 +66,7 @@ fn pattern_of(rt: &(impl Abort + AllocGlobal), length: u32) -> String {
     } else {
         script.push_str("short ").expect(rt, "a pattern");
         for _ in 6..length {
-            script.push('1').expect(rt, "a pattern");
+            script.push('0').expect(rt, "a pattern");
         }
     }
     script.push_str("\nend 10\n").expect(rt, "a script");
