@@ -14,7 +14,7 @@ fn repeated(rt: &(impl Abort + AllocGlobal), text: &str, count: usize) -> String
 
 /// Where an expectation of a pattern of so many bytes is at fault.
 fn fault_of_pattern(rt: &(impl Abort + AllocGlobal), bytes: usize) -> String {
-    let bits = repeated(rt, "1", bytes.saturating_sub(6));
+    let bits = repeated(rt, "0", bytes.saturating_sub(6));
     let script = format!(in rt.alloc(); "expect from 0 to 9 short {bits}\n").expect(rt, "a script");
     fault_of(rt, &script)
 }

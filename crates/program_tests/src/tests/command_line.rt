@@ -172,7 +172,6 @@ mon --strict --json
 mon --from-start --strict
 mon --audit --strict --strict
 mon --json --json
-step --json
 live --json --json
 live --json --strict
 live room.net
