@@ -16,12 +16,13 @@ KEY_CODES = {"ArrowDown": 40, "ArrowUp": 38, "ArrowLeft": 37, "ArrowRight": 39, 
              "PageUp": 33, "Home": 36, "End": 35, "Tab": 9}
 # A loaded machine with two processors takes long for each thing; only a browser that hangs takes so long.
 PATIENCE = 120
+WIDTH, HEIGHT = 1440, 900
 
 
 class Browser:
     """A browser with one page and a profile of its own, both gone after `close`."""
 
-    def __init__(self, program, width=1440, height=900, dark=False):
+    def __init__(self, program, width=WIDTH, height=HEIGHT, dark=False):
         self.home = tempfile.mkdtemp(prefix="hdminet-browser-")
         self.log = open(os.path.join(self.home, "log"), "w+", encoding="utf-8", errors="replace")
         flags = ["--headless=new", "--no-sandbox", "--disable-gpu", "--disable-dev-shm-usage", "--remote-debugging-port=0",

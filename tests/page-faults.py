@@ -17,6 +17,7 @@ import tempfile
 TOP = os.path.dirname(os.path.dirname(os.path.realpath(__file__)))
 ROOM, CAPTURE, WORDS, REPORT = "values_of_retries", "values_of_a_capture", "words_are_the_standards", "reports_are_shown"
 EVENING, LOOSE, SEARCH = "values_of_an_evening", "values_of_a_loose_device", "searches_find"
+FOLDED, PASSED = "retries_are_folded", "passed_on_edids_are_shown"
 BYTES, REACHED, FIT, LIVE_BYTES = "bytes_are_shown", "bytes_are_reached", "bytes_fit", "live_bytes_are_run"
 
 # What is wrong, the file of view/, what stands there and what is planted, and the test that is to fail.
@@ -50,7 +51,7 @@ PLANTS = [
     ("free and taken", "model.js", "o.verdict === 'nack' ? 'free' : 'taken'", "o.verdict === 'ack' ? 'free' : 'taken'", ROOM),
     ("the tooltip of a head", "chart.js", "`${lane.name}, ${lane.kind}: search", "`${lane.kind}, ${lane.name}: search", ROOM),
     ("the slot at a loser's mark", "chart.js", "`out @${loser.slot}`", "`out @${loser.slot + 1}`", ROOM),
-    ("the number of a block that nobody took", "model.js", "`block ${o.bits.length / 10} ${", "`block ${o.bits.length / 10 + 1} ${", ROOM),
+    ("the number of a block that nobody took", "model.js", "`block ${stopped.block} ${", "`block ${stopped.block + 1} ${", ROOM),
     ("the times of an ending", "words.js", "(2050..2750 after the one before)", "(2050..2700 after the one before)", WORDS),
     ("who is at a physical address", "words.js", "deviceAt(lane, round.begin)", "deviceAt(lane, 0)", ROOM),
     ("a remark without its section", "panels.js", "(section ? `${text} (CEC ${section})` : text)", "text", ROOM),
@@ -127,6 +128,44 @@ PLANTS = [
     ("the line of a byte in the text", "live.js", "edid.owners[at].lines.map(line => all[line.number])", "edid.owners[at].lines.map(line => line.number)", LIVE_BYTES),
     ("the bytes of a line of the text", "live.js", "line <= cursor).length - 1", "line < cursor).length - 1", LIVE_BYTES),
     ("a byte stays selected", "live.js", "  if (before.byte !== null) app.map.select(before.byte, { isFocused: false });\n", "", LIVE_BYTES),
+    ("the attempts of a folded row", "chart.js", "`▸ ${kind} 1–${row.folded.length}`", "`▸ ${kind} 1–${row.folded.length - 1}`", FOLDED),
+    ("how many rows are folded", "chart.js", "` ×${row.folded.length}`", "` ×${row.folded.length - 1}`", FOLDED),
+    ("the line of an event in the chart", "chart.js", "`line ${row.o.scriptLine}`", "`line ${row.o.scriptLine + 1}`", LOOSE),
+    ("how many tests failed", "view.js", "`${failed} of ${all} failed`", "`${tests.length - failed} of ${all} failed`", "failures_are_drawn"),
+    ("more and fewer frames", "view.js", "difference < 0 ? 'fewer' : 'more'", "difference > 0 ? 'fewer' : 'more'", "advice_is_shown"),
+    ("the shapes of the strip", "strip.js", "nack: [17, 25], refused: [11, 19]", "nack: [11, 19], refused: [17, 25]", ROOM),
+    ("the times of the strip", "strip.js", "const text = shortSeconds(t, step);", "const text = shortSeconds(t + step, step);", LOOSE),
+    ("where events stand in the wave", "wave.js", "const x = this.x(events[i].at);", "const x = this.x(events[i].at + 20000);", LOOSE),
+    ("the bytes of the wave", "wave.js", "for (let i = 1; i + 8 <= slots.length; i += 10)", "for (let i = 2; i + 8 <= slots.length; i += 10)", LOOSE),
+    ("who pulls, under the mouse", "wave.js", "pulling.join(', ')", "pulling[0]", ROOM),
+    ("how far cursors are from each other", "wave.js", "`B−A ${b - a} µs`", "`B−A ${b + a} µs`", "mouse_works"),
+    ("cables of the row itself", "room.js", "if (event.index > row.index ||", "if (event.index >= row.index ||", LOOSE),
+    ("what is in standby", "room.js", "now.power === 'standby' && 'standby'", "now.power === 'on' && 'standby'", LOOSE),
+    ("the port of a cable", "room.js", "`port ${port}`", "`port ${port + 1}`", LOOSE),
+    ("on and off", "words.js", "return value ? 'on' : 'off';", "return value ? 'off' : 'on';", LOOSE),
+    ("who answers a poll", "words.js", "(verdict === 'nack' ? 'Nobody answers", "(verdict !== 'nack' ? 'Nobody answers", LOOSE),
+    ("how long an answer may take", "answers.js", "const LONGEST = 5000000;", "const LONGEST = 500000;", WORDS),
+    ("answers of another device", "answers.js", "return isTo && isFrom && (", "return isTo && (", WORDS),
+    ("spikes as long as --glitch", "texts.js", "changes[i + 1] - changes[i] < shortest", "changes[i + 1] - changes[i] <= shortest", "capture_is_drawn"),
+    ("the name of a lane of a capture", "model.js", "/^..47/.test(bytes)", "/^..46/.test(bytes)", CAPTURE),
+    ("how much later a row is", "beside.js", "${other.at - one.at} µs", "${one.at - other.at} µs", "runs_stand_beside"),
+    ("how many rows are alike", "beside.js", "${counted(same, 'row')}", "${counted(same + 1, 'row')}", "runs_stand_beside"),
+    ("the line of a test in the text", "live.js", "firstOfScript() + scriptLine - 1", "firstOfScript() + scriptLine", "live_page_runs"),
+    ("which lines of the text fail", "live.js", "failed.has(number) && 'no'", "!failed.has(number) && 'no'", "live_page_runs"),
+    ("which rows the table has", "panels.js", "`Rows ${Math.min(from + 1, to)} to", "`Rows ${from} to", LOOSE),
+    ("the opcode that is searched for", "find.js", "bytes.slice(2, 4) === name", "bytes.slice(0, 2) === name", SEARCH),
+    ("what a search leaves out", "find.js", "isNot ? row => !test(row) : test", "test", SEARCH),
+    ("the second click on a head", "view.js", "`from:${name}` ? `to:${name}`", "`from:${name}` ? ''", SEARCH),
+    ("bars of a sweep that hold", "panels.js", "= holds ? [0, 20] : [8, 12];", "= holds ? [8, 12] : [0, 20];", REPORT),
+    ("the instant of a stretch", "panels.js", "app.openInstant(stretch.from) }, title)", "app.openInstant(stretch.to) }, title)", REPORT),
+    ("how long a passed on EDID is", "panels.js", "`${p.edid.length / 2} bytes`", "`${p.edid.length} bytes`", PASSED),
+    ("bytes that the first EDID has otherwise", "panels.js", "=== byte ? byte : bad(byte)", "!== byte ? byte : bad(byte)", PASSED),
+    ("whose address is in an EDID", "panels.js", "physicalIn(app, edid))),", "physicalIn(app, first.edid))),", PASSED),
+    ("a block that nobody took, of an audit", "model.js", "STOPPED.includes(said.verdict) ? said : null;", "STOPPED.includes(said.verdict) ? null : null;", ROOM),
+    ("a block that somebody refused, without an audit", "model.js", "o.bits.endsWith(isBroadcast ? '0' : '1')", "o.bits.endsWith('1')",
+     "inferences_are_the_programs"),
+    ("a bit that is not read", "slots.js", "total < SAMPLE ? null : ", "", "inferences_are_the_programs"),
+    ("a bit that is read late", "slots.js", "null : low > SAMPLE ? 0 : 1", "null : low > SAMPLE + 500 ? 0 : 1", "inferences_are_the_programs"),
     ("which run is beside", "beside.js", "const mark = !one ? '+'", "const mark = !one ? '−'", "runs_stand_beside"),
 ]
 

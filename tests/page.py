@@ -1,7 +1,7 @@
 #!/usr/bin/env python3
 """page.py BROWSER ROOM [TEST..]: the tests of tests/page.sh. ROOM is a folder for what they make; HDMINET names the program, and
 HDMINET_BROWSERS how many browsers run at once. With HDMINET_TIMES each test says what time it has taken, and with HDMINET_MANY
-those that draw at random draw 1,000 edits and 30,000 states.
+those that draw at random draw 1,000 edits and 30,000 states; HDMINET_SEED draws other ones.
 """
 import http.client
 import importlib.machinery
@@ -20,11 +20,12 @@ import time
 
 import page_edids
 import page_values
-from browser import Browser
+from browser import Browser, HEIGHT, WIDTH
 from page_inputs import hostile_inputs, long_room, MARKUP, random_room, RETRIES
 
 # Whether tests draw as much at random as the page was once looked at with, which takes some minutes.
 IS_MANY = bool(os.environ.get("HDMINET_MANY"))
+SEED = os.environ.get("HDMINET_SEED", "")
 EDITS, STATES = (1000, 30000) if IS_MANY else (12, 600)
 TOP = os.path.dirname(os.path.dirname(os.path.realpath(__file__)))
 EXAMPLES = os.path.join(TOP, "examples")
@@ -150,16 +151,55 @@ window.testing = {
     });
   },
   /* The texts that a canvas draws. */
-  written(draw) {
-    const plain = CanvasRenderingContext2D.prototype.fillText;
+  written(draw, kind = CanvasRenderingContext2D) {
+    const plain = kind.prototype.fillText;
     const found = [];
-    CanvasRenderingContext2D.prototype.fillText = function write(text, x, y) {
+    kind.prototype.fillText = function write(text, x, y) {
       found.push([text, x, y]);
       plain.call(this, text, x, y);
     };
     draw();
-    CanvasRenderingContext2D.prototype.fillText = plain;
+    kind.prototype.fillText = plain;
     return found;
+  },
+  /* The times of the strip's axis, and where each stands. */
+  axis() {
+    const { strip, model } = this.app;
+    const texts = this.written(() => strip.whole(Math.round(strip.width), 1), OffscreenCanvasRenderingContext2D);
+    return texts.map(([text, x]) => [text, x, Math.round(strip.x(Number(text) * 1e6)) + 3, model.end]);
+  },
+  /* At which heights of the strip each round that is wide enough there is drawn: in the middle between its ends. */
+  shapes(heights) {
+    const { model, strip: { picture } } = this.app;
+    const pen = picture.getContext('2d');
+    const scale = devicePixelRatio || 1;
+    const wide = model.rows.filter(row => row.type === 'round' && row.until - row.at > model.end / 200);
+    return wide.map(row => {
+      const x = Math.round(((row.at + row.until) / 2 / model.end) * picture.width);
+      return [row.o.line, heights.map(y => pen.getImageData(x, Math.round(y * scale), 1, 1).data[3] > 0)];
+    });
+  },
+  /* What the wave has of a stretch: the bytes, and where events are marked. */
+  stretch(from, to) {
+    const { wave } = this.app;
+    const lines = [];
+    wave.see(from, to);
+    wave.line = (...points) => lines.push(points);
+    const texts = this.written(() => wave.draw());
+    delete wave.line;
+    const marks = lines.filter(([[, top]]) => top === 20).map(([[x]]) => x);
+    const bytes = texts.filter(([text, , y]) => /^[0-9a-f]{2}$/.test(text) && y > 40).map(([text, x]) => [text, x]);
+    return { bytes, marks, from: wave.from, to: wave.to, left: wave.x(wave.from), right: wave.x(wave.to) };
+  },
+  /* The boxes and the cables of the room after a row. */
+  room(index) {
+    const { app } = this;
+    app.openPanel('room');
+    app.select(app.model.rows[index]);
+    const map = document.querySelector('#panel .map');
+    const texts = one => [...one.querySelectorAll('text')].map(text => text.textContent);
+    return [[...map.querySelectorAll('g[data-device]')].map(box => [box.dataset.device, box.getAttribute('class'), ...texts(box)]),
+      [...map.querySelectorAll('.cable')].map(path => [path.classList.contains('way'), path.nextElementSibling.textContent])];
   },
 };
 true
@@ -416,8 +456,11 @@ def capture_is_drawn(t, b):
             if level == "1" and i % 60 == 31:
                 lines += [f"#{int(at) + late + 12}", "0!", f"#{int(at) + late + 30}", "1!"]
         else:
-            lines.append(f"#{at}")
+            lines += [f"#{int(at) - 9000}", "0!", f"#{int(at) - 8950}", "1!", f"#{at}"]
+            spike = int(at) - 9000
     show(b, written("faulty.vcd", "\n".join(lines) + "\n"), "--glitch", "50")
+    t.same("what is as long as --glitch says stays", b.js("testing.app.model.wave.line.changes.slice(-2)"), [spike, spike + 50])
+    t.same("as the program reads it", b.js("testing.app.model.rounds.at(-1).line"), f"{spike} {spike + 50} bad-start -")
     t.holds("remarks of widths", b.js("testing.app.model.rows.filter(row => (row.remarks || []).length > 0).length") > 5)
     t.same("bits of all readings", b.js(
         "testing.app.model.rounds.filter(o => o.ending === 'complete' && !hdminet.slotsOf(testing.app.model, o)).length"), 0)
@@ -436,6 +479,7 @@ def values_of_room(t, b, name, room):
     t.same(f"{name}: hints", b.js("testing.shown(0).hints"), hints)
     panels_are_shown(t, b, name, run)
     wave_is_shown(t, b, name, run)
+    stretches_are_shown(t, b, name, run)
     room_is_shown(t, b, name, run)
     strip_is_shown(t, b, name, run)
 
@@ -479,8 +523,41 @@ def values_of_a_loose_device(t, b):
     t.holds("what the row changed", ["active source", "1.0.0.0", "was –"] in changed, changed)
 
 
+def boxes_of(run, number):
+    """The boxes and the cables of the room after a row: by the session's states, and by the room's plugs and events."""
+    row, after = run.rows[number], run.states[number][1]
+    senders = page_values.Page(run, number).senders() if row["type"] == "round" else []
+    root = [name for name in run.devices if after[name]["physical_address"] == "0.0.0.0"]
+    active = after[root[0]]["active_source"] if root else None
+    source = [name for name in run.devices if active and after[name]["physical_address"] == active][:1]
+    cables = {one["device"]: (one["parent"], one["port"]) for one in run.objects if one["type"] == "plug"}
+    for one in run.rows[:number + 1]:
+        if one["type"] == "event" and one["verdict"] == "ok" and one["verb"] in ("plug", "unplug"):
+            cables.pop(one["device"], None)
+            if one["verb"] == "plug":
+                _, device, parent, port = one["text"].split(" ")
+                cables[device] = (parent, int(port))
+    way, last = [], source[0] if source else None
+    while last in cables and last not in way:
+        way.append(last)
+        last = cables[last][0]
+    boxes = []
+    for name in run.devices:
+        state = after[name]
+        is_off = not state["physical_address"]
+        marks = ["off" if is_off else "", "standby" if state["power"] == "standby" else "", "active" if name in source else "",
+                 "sending" if name in senders else ""]
+        addresses = "+".join(one or page_values.MINUS for one in state["logical_addresses"]) or page_values.MINUS
+        boxes.append([name, " ".join(filter(None, marks)), f"{'▶ ' if name in senders else ''}{name}{' ●' if name in source else ''}",
+                      "not joined" if is_off else f"{addresses} {state['physical_address']}", f"{run.kinds[name]} {state['power'] or ''}".strip()])
+    return [boxes, [[name in way, f"port {cables[name][1]}"] for name in run.devices if name in cables]]
+
+
 def room_is_shown(t, b, name, run):
-    """Each device's state after each row, in the panel of the room, is what the program's session says."""
+    """Each device's state after each row, in the panel of the room, is what the program's session says; so are the boxes."""
+    told = [number for number, row in enumerate(run.rows) if row["type"] in ("round", "event")]
+    for number, got in zip(told, b.js(f"{json.dumps(told)}.map(index => testing.room(index))")):
+        t.same(f"{name}: the boxes after {run.rows[number]['line']}", got, boxes_of(run, number))
     got = b.js("(testing.app.openPanel('room'), testing.app.model.rows.map(row => { testing.app.select(row); return " + TABLE + "[0]; }))")
     for number, (row, cells) in enumerate(zip(run.rows, got)):
         if row["type"] in ("round", "event"):
@@ -494,7 +571,7 @@ def room_is_shown(t, b, name, run):
 def states_are_the_sessions(t, b):
     """At random instants, half of them soon after the close of a round, each device's state is what a session of `live` says there:
     of random rooms and of a long one."""
-    draw = random.Random("instants")
+    draw = random.Random(f"instants{SEED}")
     compared, differ = 0, []
     while compared < STATES:
         room = long_room(2000) if compared == 0 else random_room(draw)
@@ -577,6 +654,8 @@ def panels_are_shown(t, b, name, run):
     b.js("testing.app.openPanel('table'), testing.app.openTable(0)")
     rows = [row for row in b.js(TABLE)[0][1:] if row[1] or row[2] or row[4] in ("free", "taken", "bad-start", "short", "silent")]
     t.same(f"{name}: the table of rows", rows, [page_values.grid_row(page) for page in pages])
+    shown = b.js("testing.app.chart.shown.length")
+    t.same(f"{name}: which rows the table has", b.js("document.querySelector('#panel p').textContent").strip(), f"Rows 1 to {shown} of {shown}.")
     b.js("testing.app.openPanel('devices')")
     t.same(f"{name}: at the end", b.js(TABLE)[0], page_values.states_table(run))
     b.js("testing.app.openPanel('talk')")
@@ -624,9 +703,19 @@ def reports_are_shown(t, b):
     t.same("a sweep in words", b.js(TABLE)[0][1:], [
         [span if span.split("..")[0] != span.split("..")[1] else span.split("..")[0], *(words[word] for word in tests)]
         for span, *tests in stretches])
+    high = b.js("[...document.querySelectorAll('#space svg rect')].map(bar => [bar.textContent.startsWith('holds'), bar.getAttribute('y'),"
+                " bar.getAttribute('height')])")
+    t.same("what fails is lower", [one[1:] for one in high], [["0", "20"] if one[0] else ["8", "12"] for one in high])
     bars = "[...document.querySelectorAll('#space svg')].map(bar => [...bar.querySelectorAll('title')].map(one => one.textContent))"
     t.same("a sweep's bars", b.js(bars), [[f"{'holds' if tests[i] == 'ok' else 'fails'} from {span.replace('..', ' to ')}"
                                       for span, *tests in stretches] for i in range(2)])
+    first, last = stretches[-1][0].split("..")
+    b.js("(bars => bars[bars.length - 1].dispatchEvent(new MouseEvent('click', { bubbles: true })))(document.querySelectorAll('#space svg rect'))")
+    t.holds("a click on a bar shows the run at its first instant", until(b, "testing.app.model.rounds.length > 0"))
+    at_first = re.sub(r"(?<= )\d+\.\.\d+(/\d+)?(?= |$)", first, example("race.sweep"), count=1, flags=re.M)
+    plain = program(program(at_first, "check", "--plain"), "run")
+    t.same("it is that run", [b.js("testing.app.model.rounds.map(o => o.line)"), first != last],
+           [[line for line in plain.splitlines() if re.match(r"\d+ \d+ [a-z]", line)], True])
 
 
 def wave_is_shown(t, b, name, run):
@@ -652,8 +741,28 @@ def wave_is_shown(t, b, name, run):
             window = page_values.WINDOWS["start total" if slot == 0 else "bit total"]
             is_last = slot + 1 == len(falls)
             whole = "" if is_last else f", total {total} of {window[0]}..{window[1]}"
+            pulling = ["a pulse" if wire == "pulses" else wire for wire, pulls in run.wires[1:] if pulls.is_low(fall + 1)]
+            t.same(f"{name}: who pulls in slot {slot} of {one['line']}", read[3:], [f"pulled by {', '.join(pulling)}"] if pulling else [])
             t.same(f"{name}: slot {slot} of {one['line']}", read[:3],
                    [f"{fall + 1} µs", f"CEC low {low} µs, from {fall} to {fall + low}", f"{where}, low {low} of {least}..{most}{whole}"])
+
+
+def stretches_are_shown(t, b, name, run):
+    """Where the wave is too narrow for bits it has the bytes of each frame, between its ends; and it marks the events."""
+    events = sorted({one["at"] for one in run.rows if one["type"] == "event"})
+    for begin in [0, *(at - 100000 for at in events)]:
+        got = b.js(f"testing.stretch({begin}, {begin} + 700000)")
+        per_pixel = (got["to"] - got["from"]) / (got["right"] - got["left"])
+
+        def x_of(at, left=got["left"], first=got["from"], per_pixel=per_pixel):
+            return left + (at - first) / per_pixel
+        there = [x_of(at) for at in events if got["from"] <= at < got["to"]]
+        t.same(f"{name}: events from {begin} on", [round(x, 3) for x in got["marks"]], [round(x, 3) for x in there])
+        for one in run.rounds:
+            left, right = x_of(one["begin"]), x_of(one["close"])
+            if one["ending"] == "complete" and got["left"] < left and right < got["right"] - 10:
+                within = [byte for byte, x in got["bytes"] if left < x < right]
+                t.same(f"{name}: the bytes of {one['line']} in the wave", within, re.findall("..", one["bytes"]))
 
 
 def words_are_the_standards(t, b):
@@ -687,6 +796,14 @@ def words_are_the_standards(t, b):
     load(b, "\n".join(events))
     t.same("the causes", b.js("testing.app.model.rows.map((row, index) => testing.shown(index).texts[0])"),
            [f"event was refused: {words} at {i} µs." for i, words in enumerate(page_values.CAUSES.values())])
+    # An answer comes within five seconds, from whom was asked, and to who asked or to all
+    def frame(at, data, verdict="ack"):
+        return reading(at, ending="complete", frame=f"{data[0]}>{data[1]} x", initiator=data[0], destination=data[1], bytes=data, verdict=verdict)
+    load(b, "\n".join([frame(0, "0446"), frame(4900000, "404761"), frame(10000000, "048f"), frame(15100000, "409000"), frame(20000000, "0483"),
+                       frame(20100000, "1f84100001", "ok"), frame(20200000, "4f84100004", "ok"), frame(21000000, "049f"), frame(21100000, "40009f00"),
+                       frame(22000000, "0446", "nack"), frame(22100000, "404761")]))
+    t.same("which frame answers which", b.js("testing.app.model.rounds.filter(o => o.row.answers).map(o => [o.row.answers.at, o.begin])"),
+           [[0, 4900000], [20000000, 20200000], [21000000, 21100000]])
     b.js("testing.app.showHelp()")
     marks = b.js("[...document.querySelectorAll('#dialog table')].map(table => [...table.rows].map(tr => tr.textContent))")
     b.js("document.getElementById('dialog').close()")
@@ -760,17 +877,44 @@ def event_is_shown(t, what, got, row):
     t.same(f"{what}: its line", got["texts"][1:3], [f"Line {row['script_line']} of the script.", row["line"]])
 
 
+# By hand, at which heights the strip draws a round, from above: nobody acknowledged below, refused above, a poll a line
+STRIP = {"ack": ".###.", "ok": ".###.", "nack": "..##.", "refused": ".##..", "broken": "#####", "poll": "..#.."}
+
+
 def strip_is_shown(t, b, name, run):
     """A click on the strip goes to the row that is there, and the row's colour is there."""
     some = [number for number, row in enumerate(run.rows) if row["type"] == "round" and number % 5 == 0]
     for number, (at, pixel) in zip(some, b.js(f"{json.dumps(some)}.map(number => testing.clicked(number))")):
         t.holds(f"{name}: a click on the strip", abs(at - run.rows[number]["begin"]) <= pixel, [at, run.rows[number]])
-    ink = b.js("""(() => { const { app } = testing; const { model } = app; const strip = app.strip.picture;
-      const pen = strip.getContext('2d');
-      return model.rows.filter(row => row.type === 'round' && row.until - row.at > model.end / 200).map(row => {
-        const x = Math.round(((row.at + row.until) / 2 / model.end) * strip.width);
-        return pen.getImageData(x, Math.round(18 * devicePixelRatio), 1, 1).data[3] > 0; }); })()""")
-    t.holds(f"{name}: rounds are on the strip", all(ink), ink)
+    rounds = {one["line"]: one for one in run.rounds}
+    for line, ink in b.js("testing.shapes([9, 14, 18, 22, 27])"):
+        kind = page_values.class_of(rounds[line])
+        t.same(f"{name}: on the strip {kind}, {line}", ["#" if one else "." for one in ink], list(STRIP[kind]))
+    for text, x, place, end in b.js("testing.axis()"):
+        t.holds(f"{name}: the strip's time {text}", x == place and float(text) * 1e6 <= end, [x, place, end])
+
+
+def passed_on_edids_are_shown(t, b):
+    """The EDIDs that a receiver passes on: their ports, and the physical address that the program reads in each."""
+    show(b, os.path.join(EXAMPLES, "ports.net"))
+    ports = [one for one in map(json.loads, program(example("ports.net"), "run", "--json").splitlines()) if one["type"] == "port"]
+    addresses = [program(one["edid"], "edid", "--hex", "--only-address").strip() for one in ports]
+    t.holds("there are several", len(set(addresses)) > 2, addresses)
+    summaries = b.js("testing.app.openPanel('edids'), [...document.querySelectorAll('#panel summary')].map(one => one.textContent)")
+    t.same("the panel", summaries, [f"{one['device']} port {one['port']}, {page_values.duration(one['at'])}, address {address}"
+                                    for one, address in zip(ports, addresses)])
+    digits = b.js("[...document.querySelectorAll('#panel pre')].map(one => one.textContent.replace(/\\s/g, ''))")
+    t.same("their bytes", digits, [one["edid"] for one in ports])
+    odd = b.js("[...document.querySelectorAll('#panel pre')].map(one => [...one.querySelectorAll('.bad')].map(byte => byte.textContent))")
+    pairs = [[re.findall("..", edid["edid"]) for edid in (ports[0], one)] for one in ports]
+    t.same("and those that the first one has otherwise", odd, [[byte for first, byte in zip(*both) if first != byte] for both in pairs])
+    by_time = {at: [(one, address) for one, address in zip(ports, addresses) if one["at"] == at] for at in (one["at"] for one in ports)}
+    rows = b.js("testing.app.model.rows.filter(row => row.type === 'ports').map(row => { testing.app.select(row); testing.app.openPanel("
+                "'selected'); return [row.at, testing.drawn('', 0, row).label, " + TABLE + "[0]]; })")
+    t.same("their rows", rows, [[at, "EDIDs passed on: " + ", ".join(
+        f"{name} {' '.join(str(one['port']) for one, _ in some if one['device'] == name)}" for name in dict.fromkeys(
+            one["device"] for one, _ in some)), [[f"{one['device']} {one['port']}", f"{len(one['edid']) // 2} bytes, address {address}"]
+                                                 for one, address in some]] for at, some in by_time.items()])
 
 
 def failures_are_drawn(t, b):
@@ -951,6 +1095,16 @@ def runs_stand_beside(t, b):
     t.same("nothing is of the first alone", [row for row in rows if row[0] == "−"], [])
     t.same("aligned as the program has it", b.js("(({ pairs, same }) => [pairs.length, same])(testing.app.besideOf(testing.app.model))"),
            [len(lines[1]), len(lines[0])])
+    t.holds("how many rows are alike", f"The same for {len(lines[0])} rows; then they differ." in b.js(
+        "document.getElementById('panel').textContent"), lines)
+    later = room.replace("at 1000000 press", "at 1100000 press").replace("end 1500000", "end 1700000")
+    subprocess.run([os.path.join(TOP, "tools/page"), written("one.net", other), "--beside", written("later.net", later), "-o", page], check=True)
+    b.open(page)
+    b.js(HELPERS)
+    same = [line for line in program(later, "run").splitlines() if re.match(r"\d+ (\d+ [a-z]|event)", line)]
+    rows = [row for row in b.js(TABLE)[0][1:] if row[2]]
+    t.same("how much later a row is", [row[4] for row in rows], [f"+{int(row[2].replace('.', '')) - int(row[1].replace('.', ''))} µs" for row in rows])
+    t.holds("some are later", "+100000 µs" in [row[4] for row in rows], [rows, same])
     same = os.path.join(EXAMPLES, "first-path.net")
     subprocess.run([os.path.join(TOP, "tools/page"), same, "--beside", same, "-o", page], check=True)
     b.open(page)
@@ -1049,6 +1203,12 @@ def live_page_runs(t, b):
         t.same("a test of the rounds shown holds", [made.count("\nexpect from "), sum(line.startswith("ok ") for line in report)],
                [b.js("testing.app.chart.shown.filter(row => row.type === 'round').length")] * 2)
         b.js("testing.app.searchFor('')")
+        failing = example("wrong-film.test")
+        b.js(f"edit({json.dumps(failing)})")
+        numbers = [one["script_line"] for one in map(json.loads, program(failing, "check", "--json").splitlines()) if one.get("holds") is False]
+        script = failing.split("\n").index("script") + 1
+        t.same("the lines of tests that fail", b.js("[...document.querySelectorAll('#source .gutter .no')].map(one => one.textContent)"),
+               [str(script + number) for number in numbers])
         # An answer that comes after a later one is not shown
         b.js("""(() => { const plain = window.fetch; let first = true;
           window.fetch = async (...all) => { const slow = first; first = false; const answer = await plain(...all);
@@ -1113,10 +1273,35 @@ def edited(draw, text):
     return "\n".join(lines) + "\n"
 
 
+CHART_WIDTH = "hdminet.app.chart.box.clientWidth"
+# Runs a text in the live page: what is refused of it, and whether all that is shown is as before.
+EDIT = """(async () => {
+  const { app, live: { area, run } } = hdminet;
+  const shown = () => ['space', 'heads', 'panel', 'counts', 'chips'].map(id => document.getElementById(id).innerHTML).join();
+  const [model, before] = [app.model, shown()];
+  area.value = TEXT;
+  await run(true);
+  return [document.querySelector('#source .fault').textContent, model === app.model && before === shown()];
+})()"""
+
+
+def first_difference(one, other):
+    """Where two pictures first differ: the way there, and what each has."""
+    way, (one, other) = [], (json.loads(each) if isinstance(each, str) else each for each in (one, other))
+    while type(one) is type(other) and isinstance(one, (list, dict)) and len(one) == len(other):
+        keys = range(len(one)) if isinstance(one, list) else list(one)
+        key = next((key for key in keys if isinstance(one, list) or key in other if one[key] != other[key]), None)
+        if key is None:
+            break
+        way.append(key)
+        one, other = one[key], other[key]
+    return way, str(one)[:200], str(other)[:200]
+
+
 def edits_are_the_tools(t, b):
-    """A text that is edited at random: the live page has what a page of tools/look has of the same text; of one that is refused the
-    words of the refusal, and the last good picture."""
-    draw = random.Random("texts")
+    """A text that is edited at random: the live page has what a page of tools/look has of the same text, where its chart is as wide
+    as that of the other; of one that is refused the words of the refusal, and the last good picture."""
+    draw = random.Random(f"texts{SEED}")
     texts = [example("living-room-evening.net"), RETRIES, example("wrong-film.test")]
     live = Live(written("edited.net", texts[0]))
     got, good = [], []
@@ -1126,18 +1311,22 @@ def edits_are_the_tools(t, b):
         until(b, "performance.getEntriesByName('shown').length > 0")
         while len(got) < EDITS:
             text = edited(draw, draw.choice([*texts, *good[-2:]]))
-            before = picture_at(b, 0)
-            fault = b.js(f"(async () => {{ const {{ area, run }} = hdminet.live; area.value = {json.dumps(text)}; await run(true);"
-                         " return document.querySelector('#source .fault').textContent; })()")
+            fault, stays = b.js(EDIT.replace("TEXT", json.dumps(text)))
             place = draw.randrange(1000)
-            got.append((text, fault, place, picture_at(b, place) if not fault else before == picture_at(b, 0)))
+            got.append((text, fault, place, stays if fault else picture_at(b, place)))
             good += [] if fault else [text]
+        wide = b.js(CHART_WIDTH)
         faults = [fault for fault in b.faults() if not fault.startswith(f"network: {live.address}")]
         t.same("nothing else is asked", faults, [])
     finally:
         b.open(BARE)
         live.end()
-    b.js(HELPERS)
+    show(b, os.path.join(EXAMPLES, "living-room-evening.net"))
+    width = WIDTH
+    while wide != b.js(CHART_WIDTH) and width > 0:  # the panel beside it has a part of the window
+        width += wide - b.js(CHART_WIDTH)
+        b.resize(width, HEIGHT)
+        b.settle()
     for text, fault, place, picture in got:
         try:
             pages, first = TOOL.texts_of("edited.net", text.encode(), [])
@@ -1146,7 +1335,8 @@ def edits_are_the_tools(t, b):
             continue
         b.js(f"hdminet.app.openData({json.dumps(TOOL.embedded(pages, first, 'edited.net', packed=False))})")
         other = picture_at(b, place)
-        t.holds("an edited text", picture == other, [text, fault, str(picture)[:500], str(other)[:500]])
+        t.holds("an edited text", picture == other, [first_difference(picture, other), fault, place, text])
+    b.resize(WIDTH, HEIGHT)
     t.holds("some are refused, and some are not", 0 < len(good) < len(got), [len(good), len(got)])
     if IS_MANY:
         print(f"page: {len(got)} edits are as tools/page has them, {len(got) - len(good)} of them refused")
@@ -1381,7 +1571,7 @@ def bytes_fit(t, b):
         t.same("what is below the map keeps its place", b.js("hdminet.app.map.reading.getBoundingClientRect().toJSON()"), boxes[1])
         b.js("hdminet.app.map.hover(null)")
     finally:
-        b.resize(1440, 900)
+        b.resize(WIDTH, HEIGHT)
     for theme in ("light", "dark"):
         b.js(f"hdminet.app.setTheme('{theme}')")
         least = b.js("""(() => {
@@ -1529,7 +1719,7 @@ def other_sizes_fit(t, b):
         help_at = b.js("document.querySelector('.empty h2').getBoundingClientRect().y")
         t.holds("the help stands on the first screen", 0 < help_at < 500, help_at)
     finally:
-        b.resize(1440, 900)
+        b.resize(WIDTH, HEIGHT)
     b.open(page)
     rows = b.js("hdminet.app.model.rows.length")
     drawn_rows = b.js("(() => { dispatchEvent(new Event('beforeprint'));"
@@ -1561,6 +1751,9 @@ def mouse_works(t, b):
     b.click(x_of(224105) + 3, top + 80)
     b.click(x_of(227805) - 3, top + 80, modifiers=8)
     t.same("cursors on the nearest edges", b.js("testing.app.wave.cursors"), [224105, 227805])
+    b.settle()
+    t.holds("they are read", b.js("document.getElementById('reading').textContent").startswith("A 224105   B 227805   B−A 3700 µs"),
+            b.js("document.getElementById('reading').textContent"))
     width = b.js("testing.app.wave.to - testing.app.wave.from")
     at = round(x_of(240000))
     under = b.js(f"testing.app.wave.timeAt({at - left})")
@@ -1665,11 +1858,19 @@ def inferences_are_the_programs(t, b):
         if not objects:
             continue
         rooms += 1
-        load(b, objects, program(room, "run", "--edges", "--as", "vcd", "--drives"), room)
+        dump = program(room, "run", "--edges", "--as", "vcd", "--drives")
+        load(b, objects, dump, room)
         found = b.js(INFERENCES)
         rounds += found["rounds"]
         faults += [f"room {rooms}: {fault}" for fault in found["faults"]]
-    t.same(f"{rooms} random rooms", faults, [])
+        named = page_values.bits_of(program(room, "run", "--edges", "--as", "vcd", "--named", "--drives"))
+        for line, begin, close, slots in found["slots"]:
+            wanted = [[at, bit] for at, bit in named if begin <= at < close]
+            faults += [] if slots == wanted else [f"room {rooms}: {line}: {slots}, the program has {wanted}"]
+        load(b, objects, dump, room, program(dump, "mon", "--audit", "--json", "--from", "vcd"))
+        audited = b.js(INFERENCES)["stops"]
+        faults += [f"room {rooms}: {one}, with an audit {other}" for one, other in zip(found["stops"], audited) if one != other]
+    t.same(f"{rooms} random rooms", faults[:5], [])
     t.holds("they have rounds", rounds > 100, rounds)
 
 
@@ -1698,7 +1899,11 @@ INFERENCES = r"""(() => {
     if (last.isJoined !== Boolean(state.physical)) faults.push(`joined: ${lane.name}`);
     if (last.isJoined && last.physical !== state.physical) faults.push(`${lane.name} at ${last.physical}: ${state.line}`);
   }
-  return { faults: faults.slice(0, 5), rounds: model.rounds.length };
+  const inWords = (bit, i) => (i === 0 ? 'start' : i % 10 === 9 ? `EOM=${bit}` : i % 10 === 0 ? `ACK=${bit}` : String(bit));
+  const slots = model.rounds.map(round => [round.line, round.begin, round.close,
+    slotsOf(model, round).filter(({ at, bit }, i) => at < round.close && (i === 0 || bit !== null)).map(({ at, bit }, i) => [at, inWords(bit, i)])]);
+  const stops = model.rounds.map(({ line, row }) => [line, row.cls, row.text, row.from, row.to]);
+  return { faults: faults.slice(0, 5), rounds: model.rounds.length, slots, stops };
 })()"""
 
 
@@ -2076,7 +2281,7 @@ def sources_are_plain(t, _):
 
 ALL = [sources_are_plain, verdicts_are_drawn, colours_differ, retries_are_folded, wave_is_drawn, other_lines_are_noticed,
        capture_is_drawn, advice_is_shown, attempts_are_the_audits, words_are_the_standards, reports_are_shown, values_of_an_evening,
-       values_of_retries, values_of_a_loose_device, states_are_the_sessions, values_of_a_capture, failures_are_drawn, keys_reach_all, searches_find, other_sizes_fit, runs_stand_beside, live_page_runs, edits_are_the_tools, live_server_is_careful, mouse_works, hostile_inputs_are_harmless,
+       values_of_retries, values_of_a_loose_device, states_are_the_sessions, values_of_a_capture, passed_on_edids_are_shown, failures_are_drawn, keys_reach_all, searches_find, other_sizes_fit, runs_stand_beside, live_page_runs, edits_are_the_tools, live_server_is_careful, mouse_works, hostile_inputs_are_harmless,
        inferences_are_the_programs, bytes_are_shown, bytes_are_reached, bytes_fit, bytes_are_the_programs, live_bytes_are_run,
        sentences_are_the_programs, dumps_are_read, tool_is_imported, files_may_be_dropped, pages_are_made,
        examples_have_pages,

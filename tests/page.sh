@@ -50,7 +50,9 @@ stop() {
 trap stop EXIT
 trap 'exit 130' INT
 trap 'exit 143' TERM
-TMPDIR=$room HDMINET=$program PYTHONDONTWRITEBYTECODE=1 timeout 900 python3 "$top/tests/page.py" "$browser" "$room" "${@:2}" &
+limit=900 # seconds
+[ -z "${HDMINET_MANY:-}" ] || limit=7200
+TMPDIR=$room HDMINET=$program PYTHONDONTWRITEBYTECODE=1 timeout "$limit" python3 "$top/tests/page.py" "$browser" "$room" "${@:2}" &
 tests=$!
 wait "$tests"
 status=$?

@@ -76,6 +76,10 @@ def hostile_inputs(program, room):
         line(type="widths", kind=MARKUP, least=MARKUP), line(**{**complete, "type": "reading"}, line=MARKUP),
         line(type="widths", kind="start low", least=MARKUP, greatest=None), line(type="widths", kind=MARKUP, least=1e300, greatest=-1),
         line(type="remark", remark="start-low", slot=MARKUP, least={}), line(type="remark", remark="bit-low", slot=1e9, least=400)])]
+    silent = {"type": "reading", "begin": 12000, "close": 39150, "ending": "silent", "bits": "0100000001"}
+    yield "blocks that nobody took", ["\n".join([
+        line(**silent, line=MARKUP), line(type="note", note="attempt", verdict=MARKUP, block=MARKUP, attempt=1),
+        line(**silent, line="r"), line(type="note", note="attempt", verdict="nack", block={}, attempt=2), line(type="summary")])]
     yield "rules of no EDID", [f"fail {MARKUP}\n  {MARKUP}\n  here: {MARKUP}\n", f"warn x\n{MARKUP}\n"]
     part = {"type": "part", "block": 1, "byte": 4, "bytes": "e200cf", "name": MARKUP, "cut": 9e9, "left": MARKUP}
     field = {"type": "field", "block": 1, "byte": 4, "high": 7, "low": 5, "name": MARKUP, "value": 7, "meaning": MARKUP, "found": MARKUP}

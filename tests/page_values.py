@@ -93,6 +93,17 @@ def wires_of(dump):
     return list(wires.values())
 
 
+def bits_of(dump):
+    """The slots of a dump with names, as the program has them: (fall, `start`, `0`, `1`, `EOM=1` or `ACK=0`)."""
+    found, now = [], 0
+    for line in dump.splitlines():
+        if line.startswith("#"):
+            now = int(line[1:])
+        elif re.match(r"s\S+ %$", line):
+            found.append((now, line[1:-2]))
+    return found
+
+
 class Run:
     """A room's run, or a capture, as the program tells it."""
 

@@ -18,6 +18,7 @@ const SILENT = ['outside', 'outside-tv', 'switch'];
 const FOLDED_IDLE = 250000;
 const SHORTEST_FOLD = 50000;
 const VERDICTS = ['ack', 'ok', 'nack', 'refused'];
+const STOPPED = ['nack', 'refused'];
 
 export const isWave = text => ['dump', 'edges'].includes(kindOf(text));
 
@@ -46,7 +47,7 @@ export function build(texts) {
   const ends = model.objects.filter(o => o.type === 'end').length;
   if (ends > 1) model.faults.push('several runs in one page: their rounds are mixed');
   model.isCapture = !model.objects.some(o => o.type === 'round') && model.objects.some(o => o.type === 'reading');
-  if (!model.isCapture) addAudit(model);
+  addAudit(model);
   addLanes(model);
   addRows(model);
   model.rounds.sort((a, b) => a.begin - b.begin);
@@ -63,12 +64,14 @@ export function build(texts) {
 /* Takes what an audit says of the line of a run to its rounds, which are its readings. */
 function addAudit(model) {
   const key = o => `${o.begin} ${o.close}`;
-  const readings = new Map(model.objects.filter(o => o.type === 'reading').map(o => [key(o), o]));
-  if (readings.size === 0) return;
+  const all = model.objects.filter(o => o.type === 'reading');
+  for (const o of all) o.isAudited = model.hasAudit;
+  if (model.isCapture || all.length === 0) return;
+  const readings = new Map(all.map(o => [key(o), o]));
   model.objects = model.objects.filter(o => o.type !== 'reading');
   for (const o of model.objects) {
-    const { remarks, notes, widths } = (o.type === 'round' && readings.get(key(o))) || {};
-    if (remarks) [o.remarks, o.notes, o.widths] = [remarks, notes, widths];
+    const found = o.type === 'round' && readings.get(key(o));
+    if (found) [o.remarks, o.notes, o.widths, o.isAudited] = [found.remarks, found.notes, found.widths, found.isAudited];
   }
 }
 
@@ -327,11 +330,18 @@ function addRows(model) {
   });
 }
 
-/* A sender stops where a block was not taken: the round is then silent after whole blocks, and the last bit says so. */
+/* What the audit says of a block of a round that was not taken. */
+const saidOfBlock = ({ notes, remarks }) => [...notes, ...remarks].find(({ attempt }) => attempt !== null);
+
+/* A sender stops where a block was not taken: { block, verdict }, which the audit says. Without an audit the round is silent
+   after whole blocks, and its last bit says so. */
 function stoppedBy(o, destination) {
-  const isWhole = o.ending === 'silent' && o.bits.length > 0 && o.bits.length % 10 === 0;
+  if (o.ending !== 'silent') return null;
+  const said = saidOfBlock(o);
+  if (o.isAudited) return said && STOPPED.includes(said.verdict) ? said : null;
   const isBroadcast = destination === 'f';
-  return isWhole && o.bits.endsWith(isBroadcast ? '0' : '1') ? (isBroadcast ? 'refused' : 'nack') : null;
+  const isWhole = o.bits.length > 0 && o.bits.length % 10 === 0 && o.bits.endsWith(isBroadcast ? '0' : '1');
+  return isWhole ? { block: o.bits.length / 10, verdict: isBroadcast ? 'refused' : 'nack' } : null;
 }
 
 function describeRound(model, row, holders, lastOf) {
@@ -351,7 +361,7 @@ function describeRound(model, row, holders, lastOf) {
   row.text = textOf(o, isPoll, stopped);
   const broken = o.ending === 'joined' ? 'idle' : 'broken';
   const ofVerdict = VERDICTS.includes(o.verdict) ? o.verdict : 'idle';
-  row.cls = stopped || (o.ending !== 'complete' ? broken : isPoll ? 'poll' : ofVerdict);
+  row.cls = stopped ? stopped.verdict : o.ending !== 'complete' ? broken : isPoll ? 'poll' : ofVerdict;
   row.verdict = o.ending !== 'complete' ? o.ending : !isPoll ? o.verdict : o.verdict === 'nack' ? 'free' : 'taken';
   row.remarks = o.remarks;
   row.notes = o.notes;
@@ -362,7 +372,7 @@ function describeRound(model, row, holders, lastOf) {
 
 function textOf(o, isPoll, stopped) {
   if (o.ending === 'complete') return o.frame.slice(4) || `poll ${o.initiator}${isPoll ? '' : ` to ${o.destination}`}`;
-  if (stopped) return `block ${o.bits.length / 10} ${stopped === 'nack' ? 'not acknowledged' : 'refused'}`;
+  if (stopped) return `block ${stopped.block} ${stopped.verdict === 'nack' ? 'not acknowledged' : 'refused'}`;
   if (o.ending === 'joined') return 'read before the line was first idle';
   return `${o.ending}${o.bits ? ` after ${o.bits}` : ''}`;
 }
@@ -380,7 +390,7 @@ function receiversOf(model, row) {
 /* Which attempt this is says the audit. It is tied to the one before it; so are bad starts one after another. */
 function tieAttempt(row, lastOf) {
   const sender = senderOf(row.o);
-  const said = [...row.notes, ...row.remarks].find(({ attempt }) => attempt !== null);
+  const said = saidOfBlock(row.o);
   const last = lastOf.get(sender);
   row.attempt = said ? said.attempt : null;
   row.first = said && last && row.attempt === last.attempt + 1 ? last.first : row;

@@ -46,7 +46,7 @@ const SELECTED = {
   gap: (app, model, row) => [html('p', {}, `Nothing for ${duration(row.until - row.at)}, from ${row.at} to ${row.until} µs.`)],
   ports: (app, model, row) => [
     html('h2', {}, 'EDIDs passed on'),
-    table(row.ports.map(p => [`${p.device} ${p.port}`, `${p.edid.length / 2} bytes, address ${physicalIn(p.edid)}`])),
+    table(row.ports.map(p => [`${p.device} ${p.port}`, inList(`${p.edid.length / 2} bytes`, physicalIn(app, p.edid))])),
     html('p', {}, link('All EDIDs', () => app.openPanel('edids'))),
   ],
   end: (app, model, row) => [html('p', {}, `The run ends at ${row.at} µs.`)],
@@ -383,11 +383,12 @@ function drawTalk(app, model) {
   ];
 }
 
-/* The physical address in an EDID in hex: what follows the registration of HDMI's vendor block. */
-function physicalIn(edid) {
-  const found = /^(?:..)*?030c00(....)/.exec(edid);
-  return found ? [...found[1]].join('.') : 'none';
+/* The physical address in an EDID that is passed on, which the program has read for tools/page. */
+function physicalIn({ data }, edid) {
+  const isKnown = data && data.addresses && Object.hasOwn(data.addresses, edid);
+  return isKnown ? `address ${data.addresses[edid]}` : '';
 }
+const inList = (...texts) => texts.filter(Boolean).join(', ');
 function drawEdids(app, model) {
   const first = model.ports[0];
   const bytesOf = (line, k) => line.match(/../g).map((byte, j) => {
@@ -396,7 +397,7 @@ function drawEdids(app, model) {
   });
   const port = ({ device, port: number, at, edid }) => html(
     'details', {},
-    html('summary', {}, `${device} port ${number}, ${duration(at)}: ${physicalIn(edid)}`),
+    html('summary', {}, inList(`${device} port ${number}`, duration(at), physicalIn(app, edid))),
     html('pre', {}, (edid.match(/(..){1,16}/g) || []).map((line, k) => [bytesOf(line, k), '\n'])),
   );
   const meant = line => [line.startsWith(' ') ? html('span', { class: 'dim' }, line) : line, '\n'];

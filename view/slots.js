@@ -44,7 +44,8 @@ function readSlots(wave, round) {
     if (slots.length > MOST_SLOTS) return null;
     const low = (changes[i + 1] ?? wave.end) - changes[i];
     const total = (changes[i + 2] ?? Infinity) - changes[i];
-    slots.push({ at: changes[i], low, total, bit: low > SAMPLE ? 0 : 1 });
+    // None is read where the line falls again before.
+    slots.push({ at: changes[i], low, total, bit: total < SAMPLE ? null : low > SAMPLE ? 0 : 1 });
   }
   if (!round.bytes) return slots;
   const bits = slots.slice(1).map(slot => slot.bit);

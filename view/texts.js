@@ -99,12 +99,13 @@ export function readBytes(text) {
 function addTold(object, model, last) {
   const { type, line } = object;
   if (type === 'remark' || type === 'note') {
-    const { kind, section, attempt, slot, least } = object;
-    const said = { text: line.trim(), kind, section, attempt, slot, least };
+    const { kind, section, block, verdict, attempt, slot, least } = object;
+    const said = { text: line.trim(), kind, section, block, verdict, attempt, slot, least };
     if (last.reading) last.reading[`${type}s`].push(said);
     else model.ofAll.push(said.text);
   } else if (type === 'summary') {
     last.reading = null;
+    model.hasAudit = true;
   } else if (type === 'widths' && last.reading) {
     const { kind, least, greatest } = object;
     last.reading.widths.push({ kind, least, greatest });
@@ -230,8 +231,8 @@ function cleaned(o) {
     case 'remark':
     case 'note':
       return {
-        type, line, kind: asText(o[type]), section: asText(o.section), attempt: asNumber(o.attempt), slot: asNumber(o.slot),
-        least: asNumber(o.least),
+        type, line, kind: asText(o[type]), section: asText(o.section), block: asNumber(o.block), verdict: asText(o.verdict),
+        attempt: asNumber(o.attempt), slot: asNumber(o.slot), least: asNumber(o.least),
       };
     case 'widths':
       return { type, line, kind: asText(o.kind), least: asNumber(o.least), greatest: asNumber(o.greatest) };
@@ -291,7 +292,7 @@ function cleanedRound(type, line, o) {
     bits: asText(o.bits),
     by: asList(o.by).map(asText),
     out: asList(o.out).map(x => ({ device: asText(x && x.device), slot: asNumber(x && x.slot) })),
-    remarks: [], notes: [], widths: [], row: null, slots: null, slotsOf: null,
+    remarks: [], notes: [], widths: [], isAudited: false, row: null, slots: null, slotsOf: null,
   };
 }
 

@@ -392,7 +392,8 @@ export class Wave {
       const isHandshake = i > 0 && (i - 1) % 10 >= 8;
       pen.fillStyle = isOut(round, i) ? colours.broken : i === 0 ? colours.dim : isHandshake ? colours.event : colours.ink;
       const start = to - from > 36 ? 'start' : 'S';
-      const text = i === 0 ? start : isHandshake && slotPixels > 34 ? `${partOf(i)} ${slot.bit}` : String(slot.bit);
+      const bit = slot.bit ?? '–';
+      const text = i === 0 ? start : isHandshake && slotPixels > 34 ? `${partOf(i)} ${bit}` : String(bit);
       const width = text.length * CHARACTER;
       if (to - from > width) pen.fillText(text, (from + to - width) / 2, top + 10.5);
     });
@@ -403,7 +404,9 @@ export class Wave {
     const width = slotPixels * 8;
     for (let i = 1; i + 8 <= slots.length; i += 10) {
       const x = this.x(slots[i].at);
-      const byte = parseInt(slots.slice(i, i + 8).map(slot => slot.bit).join(''), 2);
+      const bits = slots.slice(i, i + 8).map(slot => slot.bit);
+      if (bits.includes(null)) return;
+      const byte = parseInt(bits.join(''), 2);
       pen.fillStyle = this.app.colours.bg;
       pen.fillRect(x + 1, top + 2, width - 2, 17);
       pen.fillStyle = this.app.colours.ink;
@@ -466,7 +469,8 @@ export class Wave {
 /* A slot with its widths and what is allowed. */
 function slotText(slots, i) {
   const { bit, low, total } = slots[i];
-  const name = i === 0 ? 'start bit' : `slot ${i}: block ${blockOf(i)} ${partOf(i)} = ${bit}`;
+  const isRead = i === 0 || bit !== null;
+  const name = i === 0 ? 'start bit' : `slot ${i}: block ${blockOf(i)} ${partOf(i)}${isRead ? ` = ${bit}` : ', not read'}`;
   const whole = slots[i + 1] ? `, total ${total} of ${(i === 0 ? WINDOWS.startTotal : WINDOWS.total).join('..')}` : '';
-  return `${name}, low ${low} of ${lowWindow(i, bit).join('..')}${whole}`;
+  return `${name}, low ${low}${isRead ? ` of ${lowWindow(i, bit).join('..')}` : ''}${whole}`;
 }
