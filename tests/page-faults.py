@@ -7,12 +7,16 @@
 It takes some minutes, so the gate does not run it; tests/page.sh sees that the edits apply. HDMINET_BROWSERS says how many browsers
 run at once, one where it does not. The last line is 'N of M are found'.
 """
-import concurrent.futures
+import contextlib
+import io
+import multiprocessing
 import os
 import shutil
-import subprocess
 import sys
 import tempfile
+import time
+
+sys.dont_write_bytecode = True
 
 TOP = os.path.dirname(os.path.dirname(os.path.realpath(__file__)))
 ROOM, CAPTURE, WORDS, REPORT = "values_of_retries", "values_of_a_capture", "words_are_the_standards", "reports_are_shown"
@@ -190,24 +194,35 @@ def copy(room):
     os.symlink(os.path.join(TOP, "examples"), os.path.join(room, "examples"))
 
 
-def is_found(plant, browser, program):
-    """Whether the test fails of a copy with this fault."""
-    _, name, old, new, test = plant
-    room = tempfile.mkdtemp(prefix="hdminet-fault-")
+def plant(fault, room):
+    """A copy of the page with a fault, as a checkout of its own in a folder."""
+    _, name, old, new, _ = fault
+    os.mkdir(room)
+    copy(room)
+    with open(os.path.join(room, "view", name), "w", encoding="utf-8") as file:
+        file.write(text_of(name).replace(old, new))
+
+
+def look(waiting, told, room):
+    """Runs the test of each fault that waits, in one browser."""
+    import page  # it takes the browser, the folder and the program of this process
+    browser = page.Browser(page.BROWSER)
     try:
-        copy(room)
-        with open(os.path.join(room, "view", name), "w", encoding="utf-8") as file:
-            file.write(text_of(name).replace(old, new))
-        made = os.path.join(room, "made")
-        os.mkdir(made)
-        environment = {**os.environ, "HDMINET": os.path.abspath(program), "TMPDIR": made, "PYTHONDONTWRITEBYTECODE": "1"}
-        done = subprocess.run([sys.executable, os.path.join(room, "tests/page.py"), browser, made, test], env=environment,
-                              capture_output=True, text=True, check=False)
-        # A page that does not even load shows nothing: some value has to differ.
-        failed = [line for line in done.stdout.splitlines() if line.startswith("not ok: ")]
-        return done.returncode == 1 and any("Error" not in line for line in failed), done.stdout
+        for number in iter(waiting.get, None):
+            fault, top = PLANTS[number], os.path.join(room, str(number))
+            plant(fault, top)
+            said = io.StringIO()
+            with contextlib.redirect_stdout(said):
+                page.work_in(top, room)
+                browser.resize(page.WIDTH, page.HEIGHT)
+                page.run(getattr(page, fault[4]), browser)
+            # A page that does not even load shows nothing: some value has to differ.
+            failed = [line for line in said.getvalue().splitlines() if line.startswith("not ok: ")]
+            told.put((number, any("Error" not in line for line in failed), failed[0][:120] if failed else ""))
+            shutil.rmtree(top)
+            shutil.rmtree(page.ROOM)
     finally:
-        shutil.rmtree(room, ignore_errors=True)
+        browser.close()
 
 
 def main():
@@ -217,15 +232,33 @@ def main():
     if missing or sys.argv[1:] == ["--apply"]:
         sys.exit(1 if missing else 0)
     browser, program, *words = sys.argv[1:]
-    chosen = [plant for plant in PLANTS if not words or any(word in plant[0] for word in words)]
+    chosen = [number for number, one in enumerate(PLANTS) if not words or any(word in one[0] for word in words)]
+    count = int(os.environ.get("HDMINET_BROWSERS", "1"))
+    fork = multiprocessing.get_context("fork")
+    waiting, told = fork.SimpleQueue(), fork.SimpleQueue()
+    for number in [*chosen, *[None] * count]:
+        waiting.put(number)
     found = 0
-    with concurrent.futures.ThreadPoolExecutor(int(os.environ.get("HDMINET_BROWSERS", "1"))) as browsers:
-        for plant, (is_seen, said) in zip(chosen, browsers.map(lambda plant: is_found(plant, browser, program), chosen)):
-            found += is_seen
-            first = next((line for line in said.splitlines() if line.startswith("not ok")), "")[:120]
-            print(f"{'found' if is_seen else 'NOT FOUND'}: {plant[0]}: {first}", flush=True)
+    with tempfile.TemporaryDirectory(prefix="hdminet-faults-") as room:
+        os.environ.update(HDMINET=os.path.abspath(program), HDMINET_SHORT="1", TMPDIR=room)
+        tempfile.tempdir = room
+        sys.argv[1:] = [browser, room]
+        browsers = [fork.Process(target=look, args=(waiting, told, room)) for _ in range(count)]
+        for one in browsers:
+            one.start()
+        for _ in chosen:
+            while told.empty() and any(one.is_alive() for one in browsers):
+                time.sleep(0.1)
+            if told.empty():
+                break
+            number, is_found, first = told.get()
+            found += is_found
+            print(f"{'found' if is_found else 'NOT FOUND'}: {PLANTS[number][0]}: {first}", flush=True)
+        for one in browsers:
+            one.join()
     print(f"page-faults: {found} of {len(chosen)} are found")
     sys.exit(0 if found == len(chosen) else 1)
 
 
-main()
+if __name__ == "__main__":
+    main()

@@ -1,7 +1,8 @@
 #!/usr/bin/env python3
 """page.py BROWSER ROOM [TEST..]: the tests of tests/page.sh. ROOM is a folder for what they make; HDMINET names the program, and
 HDMINET_BROWSERS how many browsers run at once. With HDMINET_TIMES each test says what time it has taken, and with HDMINET_MANY
-those that draw at random draw 1,000 edits and 30,000 states; HDMINET_SEED draws other ones.
+those that draw at random draw 1,000 edits and 30,000 states; HDMINET_SEED draws other ones. With HDMINET_SHORT a test ends with
+the first check that fails.
 """
 import http.client
 import importlib.machinery
@@ -26,6 +27,7 @@ from page_inputs import hostile_inputs, long_room, MARKUP, random_room, RETRIES
 # Whether tests draw as much at random as the page was once looked at with, which takes some minutes.
 IS_MANY = bool(os.environ.get("HDMINET_MANY"))
 SEED = os.environ.get("HDMINET_SEED", "")
+IS_SHORT = bool(os.environ.get("HDMINET_SHORT"))
 EDITS, STATES = (1000, 30000) if IS_MANY else (12, 600)
 TOP = os.path.dirname(os.path.dirname(os.path.realpath(__file__)))
 EXAMPLES = os.path.join(TOP, "examples")
@@ -206,6 +208,10 @@ true
 """
 
 
+class Enough(Exception):
+    """A check has failed, and no further one is asked for."""
+
+
 class Tests:
     def __init__(self):
         self.passed = 0
@@ -219,7 +225,10 @@ class Tests:
             self.passed += 1
         else:
             self.failed += 1
-            print(f"not ok: {what}: {why}"[:1500])
+            said = f"not ok: {what}: {why}"[:1500]
+            print(said)
+            if IS_SHORT and "Error" not in said:
+                raise Enough
 
 
 def program(data, *flags):
@@ -709,13 +718,14 @@ def reports_are_shown(t, b):
     bars = "[...document.querySelectorAll('#space svg')].map(bar => [...bar.querySelectorAll('title')].map(one => one.textContent))"
     t.same("a sweep's bars", b.js(bars), [[f"{'holds' if tests[i] == 'ok' else 'fails'} from {span.replace('..', ' to ')}"
                                       for span, *tests in stretches] for i in range(2)])
-    first, last = stretches[-1][0].split("..")
-    b.js("(bars => bars[bars.length - 1].dispatchEvent(new MouseEvent('click', { bubbles: true })))(document.querySelectorAll('#space svg rect'))")
+    number = [i for i, (span, *_) in enumerate(stretches) if len(set(span.split(".."))) > 1][-1]
+    first = stretches[number][0].split("..")[0]
+    b.js(f"document.querySelectorAll('#space svg rect')[{number}].dispatchEvent(new MouseEvent('click', {{ bubbles: true }}))")
     t.holds("a click on a bar shows the run at its first instant", until(b, "testing.app.model.rounds.length > 0"))
     at_first = re.sub(r"(?<= )\d+\.\.\d+(/\d+)?(?= |$)", first, example("race.sweep"), count=1, flags=re.M)
     plain = program(program(at_first, "check", "--plain"), "run")
-    t.same("it is that run", [b.js("testing.app.model.rounds.map(o => o.line)"), first != last],
-           [[line for line in plain.splitlines() if re.match(r"\d+ \d+ [a-z]", line)], True])
+    t.same("it is that run", b.js("testing.app.model.rounds.map(o => o.line)"),
+           [line for line in plain.splitlines() if re.match(r"\d+ \d+ [a-z]", line)])
 
 
 def wave_is_shown(t, b, name, run):
@@ -845,7 +855,7 @@ def round_is_shown(t, what, got, page):
     t.same(f"{what}: free time", [text for text in got["texts"] if "was high for" in text], [page.free()] if page.free() else [])
     slots = run.wires[0][1].slots(one["begin"], one["close"])
     each = [[str(low), "" if i + 1 == len(slots) else str(total)] for i, (_, low, total) in enumerate(slots)]
-    shown = got["tables"].get("Each slot")
+    shown = got["tables"].get("Each slot", [[]])
     if one["ending"] == "complete":
         t.same(f"{what}: each slot", [row[2:] for row in shown[1:]], each)
         parts = ["bit 1", "bit 2", "bit 3", "bit 4", "bit 5", "bit 6", "bit 7", "bit 8", "EOM", "ACK"]
@@ -856,7 +866,7 @@ def round_is_shown(t, what, got, page):
     told = [below["verdict"] for below in [*run.notes(one), *remarks] if below.get("note", below.get("remark")) in ("attempt", "too-many-attempts")]
     t.same(f"{what}: what the audit says of its last block", [page_values.stopped(one)], told if one["ending"] == "silent" and told else [None])
     lows = [str(remark["width"]) for remark in remarks if remark["remark"] in ("start-low", "bit-low")]
-    t.same(f"{what}: slots that are marked", got["odd"], lows if shown else [])
+    t.same(f"{what}: slots that are marked", got["odd"], lows if len(shown) > 1 else [])
 
     def said(below):
         return [one["line"].strip() + (f" (CEC {one['section']})" if one["section"] else "") for one in below]
@@ -2308,6 +2318,8 @@ def run(one, browser):
         one(tests, browser)
         if one not in WITH_FAULTS:
             tests.same(f"{one.__name__}: faults of the page", browser.faults(), [])
+    except Enough:
+        pass
     except Exception as fault:  # a test that breaks off has failed, and the next ones go on
         tests.holds(one.__name__, False, f"{type(fault).__name__}: {fault}")
     if os.environ.get("HDMINET_TIMES"):
@@ -2316,12 +2328,20 @@ def run(one, browser):
     return tests.passed, tests.failed
 
 
-def run_some(waiting, told):
-    """Runs tests in a browser and a folder of its own, one after another, as long as one waits."""
-    global ROOM, BARE
-    ROOM = tempfile.mkdtemp(prefix="tests-", dir=ROOM)
+def work_in(top, room):
+    """From now on the page and its tools are those of `top`, and what the tests make stands in a folder of its own in `room`."""
+    global TOP, TOOL, ROOM, BARE
+    TOP = top
+    TOOL = page_tool()
+    MADE.clear()
+    ROOM = tempfile.mkdtemp(prefix="tests-", dir=room)
     BARE = os.path.join(ROOM, "bare.html")
     TOOL.main(["--bare", "-o", BARE])
+
+
+def run_some(waiting, told):
+    """Runs tests in a browser and a folder of its own, one after another, as long as one waits."""
+    work_in(TOP, ROOM)
     browser = Browser(BROWSER)
     try:
         for one in iter(waiting.get, None):
@@ -2366,4 +2386,5 @@ def main():
     sys.exit(1 if failed else 0)
 
 
-main()
+if __name__ == "__main__":
+    main()
