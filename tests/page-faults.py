@@ -167,7 +167,7 @@ PLANTS = [
     ("whose address is in an EDID", "panels.js", "physicalIn(app, edid))),", "physicalIn(app, first.edid))),", PASSED),
     ("a block that nobody took, of an audit", "model.js", "STOPPED.includes(said.verdict) ? said : null;", "STOPPED.includes(said.verdict) ? null : null;", ROOM),
     ("a block that somebody refused, without an audit", "model.js", "o.bits.endsWith(isBroadcast ? '0' : '1')", "o.bits.endsWith('1')",
-     "inferences_are_the_programs"),
+     "capture_is_drawn"),
     ("a bit that is not read", "slots.js", "total < SAMPLE ? null : ", "", "inferences_are_the_programs"),
     ("a bit that is read late", "slots.js", "null : low > SAMPLE ? 0 : 1", "null : low > SAMPLE + 500 ? 0 : 1", "inferences_are_the_programs"),
     ("which run is beside", "beside.js", "const mark = !one ? '+'", "const mark = !one ? '−'", "runs_stand_beside"),

@@ -175,7 +175,7 @@ window.testing = {
     const { model, strip: { picture } } = this.app;
     const pen = picture.getContext('2d');
     const scale = devicePixelRatio || 1;
-    const wide = model.rows.filter(row => row.type === 'round' && row.until - row.at > model.end / 200);
+    const wide = model.rows.filter(row => row.type === 'round' && row.until - row.at > (3.5 * model.end) / picture.width);
     return wide.map(row => {
       const x = Math.round(((row.at + row.until) / 2 / model.end) * picture.width);
       return [row.o.line, heights.map(y => pen.getImageData(x, Math.round(y * scale), 1, 1).data[3] > 0)];
@@ -448,6 +448,12 @@ def capture_is_drawn(t, b):
     t.same("joined", [joined["cls"], joined["label"]], ["idle", "read before the line was first idle"])
     t.same("open", [still["cls"], still["verdict"], still["senders"]], ["broken", "open", ["4"]])
     t.same("long", [long["cls"], long["verdict"]], ["broken", "long"])
+    # Without an audit the last bit of whole blocks says who did not take them: to one device a 1, to all a 0
+    stops = [("0100000001", ["nack", "block 1 not acknowledged"]), ("0100000000", ["broken", "silent after 0100000000"]),
+             ("01001111001000001000", ["refused", "block 2 refused"]), ("0100111101", ["broken", "silent after 0100111101"]),
+             ("010000000", ["broken", "silent after 010000000"])]
+    load(b, "\n".join(reading(60000 * i, "silent", bits) for i, (bits, _) in enumerate(stops)))
+    t.same("where a sender stops", b.js("testing.app.model.rounds.map(o => [o.row.cls, o.row.text])"), [wanted for _, wanted in stops])
     # What an audit notes is no remark
     remark = {"line": "  free 1 of 2", "type": "remark", "remark": "free", "section": "9.1", "width": 1, "due": 2}
     note = {"line": "  read 0>8", "type": "note", "note": "read", "section": None, "initiator": "0"}
@@ -624,6 +630,15 @@ def values_of_a_capture(t, b):
     rows_are_shown(t, b, "faulty.edges", run, page_values.PageOfCapture)
     hints = [f"{digit}, {page_values.ADDRESSES[int(digit, 16)]}: search for what it sends, and then for what it is sent" for digit in run.lanes()]
     t.same("faulty.edges: hints", b.js("testing.shown(0).hints"), hints)
+    # Names and places that devices tell
+    text = program(example("living-room-evening.net"), "run", "--edges")
+    run = page_values.Run(program, capture=text)
+    show(b, written("evening.edges", text))
+    last = [number for number, row in enumerate(run.rows) if row["type"] == "reading"][-1]
+    heads = page_values.PageOfCapture(run, last).heads()
+    got = b.js(f"testing.shown({last}).heads")
+    t.same("evening.edges: heads", [one for one in got if "…" not in one[0]], [one for one in heads if one[2][0] != "f"])  # a long name is cut
+    t.holds("some have told a name", any(name not in page_values.ADDRESSES for name, _, _ in heads), heads)
 
 
 def rows_are_shown(t, b, name, run, kind):
@@ -897,9 +912,11 @@ def strip_is_shown(t, b, name, run):
     for number, (at, pixel) in zip(some, b.js(f"{json.dumps(some)}.map(number => testing.clicked(number))")):
         t.holds(f"{name}: a click on the strip", abs(at - run.rows[number]["begin"]) <= pixel, [at, run.rows[number]])
     rounds = {one["line"]: one for one in run.rounds}
-    for line, ink in b.js("testing.shapes([9, 14, 18, 22, 27])"):
+    found = b.js("testing.shapes([9, 14, 18, 22, 27])")
+    t.holds(f"{name}: most rounds are wide enough", 2 * len(found) > len(rounds), [len(found), len(rounds)])
+    for line, ink in found:
         kind = page_values.class_of(rounds[line])
-        t.same(f"{name}: on the strip {kind}, {line}", ["#" if one else "." for one in ink], list(STRIP[kind]))
+        t.same(f"{name}: on the strip {kind}, {line}", "".join("#" if one else "." for one in ink), STRIP[kind])
     for text, x, place, end in b.js("testing.axis()"):
         t.holds(f"{name}: the strip's time {text}", x == place and float(text) * 1e6 <= end, [x, place, end])
 
@@ -1667,6 +1684,14 @@ def bytes_are_the_programs(t, b):
                 wanted[128 * one["block"] + one["byte"]].append(
                     [bits, f"{value:0{one['high'] - one['low'] + 1}b}", one["name"], str(value), said])
         t.same(f"{name}: fields", got, wanted)
+    # Without its fields the timings of an extension begin where its third byte says (CTA-861 7.5)
+    data = page_edids.example_edid("lg-oled55b6v")
+    begin = 128 + data[130]
+    b.open(BARE)
+    b.js(HELPERS)
+    load(b, edid_told(data, "--meaning")[0], data.hex())
+    t.same("a timing without fields", b.js(f"[{begin - 1}, {begin}, {begin + 17}, {begin + 18}].map(at => testing.app.model.edid.owners[at]"
+                                           ".lines.map(line => line.word).join())"), ["", "timing", "timing", "tail"])
 
 
 def live_bytes_are_run(t, b):
@@ -1911,7 +1936,7 @@ INFERENCES = r"""(() => {
   }
   const inWords = (bit, i) => (i === 0 ? 'start' : i % 10 === 9 ? `EOM=${bit}` : i % 10 === 0 ? `ACK=${bit}` : String(bit));
   const slots = model.rounds.map(round => [round.line, round.begin, round.close,
-    slotsOf(model, round).filter(({ at, bit }, i) => at < round.close && (i === 0 || bit !== null)).map(({ at, bit }, i) => [at, inWords(bit, i)])]);
+    (slotsOf(model, round) || []).filter(({ at, bit }, i) => at < round.close && (i === 0 || bit !== null)).map(({ at, bit }, i) => [at, inWords(bit, i)])]);
   const stops = model.rounds.map(({ line, row }) => [line, row.cls, row.text, row.from, row.to]);
   return { faults: faults.slice(0, 5), rounds: model.rounds.length, slots, stops };
 })()"""
