@@ -1570,7 +1570,7 @@ def bytes_are_reached(t, b):
              ((page_edids.example_edid(), page_edids.LIVING_ROOM), page_edids.moved_edid())]
     texts = [{"name": "x", "text": text, "size": len(text), "wave": False} for edid in pages
              for text in (edid.meaning, edid.data.hex(), edid.objects())]
-    readings = [{"texts": places, "how": {}, "said": [], "frames": 0, "flags": "", "beside": places[0] > 0} for places in ([0, 1, 2], [3, 4, 5])]
+    readings = [{"texts": places, "said": [], "frames": 0, "flags": "", "beside": places[0] > 0} for places in ([0, 1, 2], [3, 4, 5])]
     b.js(f"hdminet.app.openData({json.dumps({'title': 'x', 'first': 0, 'readings': readings, 'texts': texts})})")
     t.same("an EDID beside the same with two data blocks exchanged", b.js(alike), [0, "Both say the same."])
 
@@ -2104,20 +2104,8 @@ def attempts_are_the_audits(t, b):
 
 
 def tool_is_imported(t, b):
-    """tools/page as a module: the times and levels of captures, and the flags that a line of the program advises, by hand
-    (docs/captures.md)."""
+    """tools/page as a module: the flags that a line of the program advises, by hand."""
     tool = page_tool()
-    day = tool.csv_time("2026-11-26T16:00:00.060000000+00:00")
-    t.same("times", [tool.csv_time("0.012000000"), tool.csv_time("12"), tool.csv_time("-0.5"),
-                     tool.csv_time("2026-11-26T16:00:01.5Z") - day, tool.csv_time("2026-11-26T18:00:00.07+02:00") - day],
-           [12000000, 12000000000, -500000000, 1440000000, 10000000])
-    # Finer times are rounded up; of several in a microsecond the last counts; a level that comes again is no edge
-    levels = [(0, 1), (12000001, 0), (12000900, 1), (13000000, 1), (15000000, 0), (15000100, 1), (15000200, 0), (16000000, 0)]
-    t.same("levels", tool.edges_text(levels), b"15000 0\n16000 end\n")
-    pin = b"# cec-ctl --store-pin\n# start_monotonic 10.000000000\n10.000000000 1\n10.012000000 0\n10.013000000 65536\n10.0157 9\n"
-    t.same("pin events", list(tool.pin_edges(pin)), [(0, 1), (12000000, 0), (13000000, 0)])
-    csv = b"Time [s],SDA,CEC\r\n-1.0,1,1\r\n-0.988,1,0\r\n-0.9843,1,1\r\n"
-    t.same("another column", list(tool.csv_edges(csv, "CEC")), [(0, 1), (12000000, 0), (15700000, 1), (25700000, 1)])
     for line, given, wanted in [
             ("the first wire has no edge, --signal takes one of SDA, CEC", [], [["--signal", "SDA"], ["--signal", "CEC"]]),
             ("--margin 200 reads 3 frames more", ["--invert"], [["--invert", "--margin", "200"]]),

@@ -6,7 +6,7 @@ import { tieAnswers } from './answers.js';
 import { edidOf } from './edid.js';
 import { SLOT } from './slots.js';
 import { asList, asText, begun, kindOf, lowerBound, readBytes, readDump, readEdges, readFindings, readObjects } from './texts.js';
-import { readRoom, smoothed, turned } from './texts.js';
+import { readRoom } from './texts.js';
 import { addressName } from './words.js';
 
 /* The logical addresses that each kind polls, by unit (docs/behaviour.md). A combo has two units. */
@@ -22,7 +22,7 @@ const STOPPED = ['nack', 'refused'];
 
 export const isWave = text => ['dump', 'edges'].includes(kindOf(text));
 
-/* The model of some texts: each is { name, text }, and that of a wave may say how it is read. */
+/* The model of some texts: each is { name, text }. */
 export function build(texts) {
   const model = {
     title: '', objects: [], tests: [], stretches: [], meanings: [], faults: [], lanes: [], rows: [], rounds: [], states: [],
@@ -75,18 +75,15 @@ function addAudit(model) {
   }
 }
 
-/* Adds a wave, which is the longest of the texts to read; `how` says by which flags the capture was read. */
+/* Adds a wave, which is the longest of the texts to read. */
 export function addWave(model, one) {
-  const { name, how } = one;
-  const { signal, glitch, invert } = how || {};
+  const { name } = one;
   const text = begun(one, model.faults);
-  const wave = kindOf(text) === 'dump' ? readDump(text, signal) : readEdges(text);
+  const wave = kindOf(text) === 'dump' ? readDump(text) : readEdges(text);
   if (!wave) {
     model.faults.push(`${name}: a dump without a wire or a time scale`);
     return;
   }
-  if (invert) wave.line.changes = turned(wave.line.changes);
-  if (Number(glitch) > 0) wave.line.changes = smoothed(wave.line.changes, Number(glitch));
   model.wave = wave;
   model.end = Math.max(model.end, wave.end);
 }

@@ -347,7 +347,7 @@ function readDefinitions(text) {
 
 /* A Value Change Dump, as `run --edges --as vcd --drives`, sigrok and GTKWave write it. The changes are read word by word, by
    hand, since a long run has some millions of them. */
-export function readDump(text, signal) {
+export function readDump(text) {
   const start = text.indexOf('$enddefinitions');
   const found = start < 0 ? null : readDefinitions(text.slice(0, start));
   if (!found) return null;
@@ -384,7 +384,7 @@ export function readDump(text, signal) {
     }
   }
   return {
-    line: wires.find(w => w.name === signal) || wires[0],
+    line: wires[0],
     devices: wires.filter(w => w.scope === 'devices'),
     pulses: wires.find(w => w.name === 'pulses' && w.scope !== 'devices') || null,
     end: Number.isFinite(now) ? now : 0,
@@ -408,19 +408,6 @@ export function readEdges(text) {
     if (level !== 101) note(line, end, level === 49);
   }
   return { line, devices: [], pulses: null, end };
-}
-
-/* The line that is low where that of these changes is high; before the first instant both are high, as `mon --invert` has it. */
-export const turned = changes => (changes[0] === 0 ? changes.slice(1) : [0, ...changes]);
-
-/* Leaves out pulses and gaps that are shorter, as `mon --glitch` does: from the left on, of two changes that are closer both. */
-export function smoothed(changes, shortest) {
-  const kept = [];
-  for (let i = 0; i < changes.length; ) {
-    if (i + 1 < changes.length && changes[i + 1] - changes[i] < shortest) i += 2;
-    else kept.push(changes[i++]);
-  }
-  return kept;
 }
 
 /* A room's own text: its devices, its plugs, and the lines of its script by number. */

@@ -66,8 +66,8 @@ class App {
   /* Shows one of the readings that are in the page: of a capture there is one for each flag that the program advises. */
   async openReading(index) {
     const { texts, readings, title } = this.data;
-    const { texts: places, how } = readings[index];
-    const parts = places.map((place, i) => ({ ...texts[place], ...(i === 0 ? { name: title || texts[place].name } : {}), how }));
+    const { texts: places } = readings[index];
+    const parts = places.map((place, i) => ({ ...texts[place], ...(i === 0 ? { name: title || texts[place].name } : {}) }));
     const readOne = async part => ({ ...part, name: asText(part.name), text: await inflated(part) });
     const read = wanted => Promise.all(wanted.map(readOne));
     const waves = parts.filter(part => part.wave && part.size > LATER);
