@@ -1736,6 +1736,33 @@ def live_bytes_are_run(t, b):
         live.end()
 
 
+# An event with more words than a narrow chart has room for
+LONG_WORDS = """device tv tv 4
+device p1 player 0
+plug p1 tv 1
+script
+at 2000000 send tv 0>4 give-device-power-status
+at 3000000 send p1 4>0 report-power-status standby
+end 4000000
+"""
+# Texts of rows that stand over the row's time, and those of events that stand over an address of the row.
+OVER_OTHERS = """(() => {
+  dispatchEvent(new Event('beforeprint'));
+  const found = [...document.querySelectorAll('#space .row')].flatMap(row => {
+    const boxes = selector => [...row.querySelectorAll(selector)].map(one => [one.getBoundingClientRect(), one.textContent]);
+    const labels = boxes('.label');
+    const isOver = ([one, text]) => {
+      const isOverTime = boxes('.time').some(([time]) => one.left < time.right);
+      const isOverClaim = row.classList.contains('event') && boxes('.claim').some(([box]) => one.left < box.right && box.left < one.right);
+      return isOverTime || isOverClaim || text === '';
+    };
+    return labels.filter(isOver).map(([, text]) => text);
+  });
+  dispatchEvent(new Event('afterprint'));
+  return found;
+})()"""
+
+
 def other_sizes_fit(t, b):
     """A telephone: the panel below the chart, nothing wider than the window, the help on the first screen; and all rows where it is printed."""
     page = page_of(os.path.join(EXAMPLES, "living-room-evening.net"))
@@ -1748,6 +1775,10 @@ def other_sizes_fit(t, b):
         t.holds("the chart has the window's width", boxes[0][2] > 350, boxes)
         t.holds("the panel stands below", boxes[1][1] > boxes[0][1] + 200 and boxes[1][2] > 350, boxes)
         t.holds("nothing is wider", b.js("document.documentElement.scrollWidth") <= 390)
+        for path in (os.path.join(EXAMPLES, "capture.sigrok.vcd"), os.path.join(EXAMPLES, "ports.net"), written("retries.net", RETRIES),
+                     written("wide.net", LONG_WORDS)):
+            b.open(page_of(path))
+            t.same(f"{os.path.basename(path)}: texts that stand over others", b.js(OVER_OTHERS), [])
         b.open(BARE)
         shown = b.js("['aside', '#chart'].map(one => getComputedStyle(document.querySelector(one)).display)")
         t.same("an empty page has no panel there", shown, ["none", "block"])

@@ -323,9 +323,13 @@ class RowPicture {
     const x = row.lane === undefined ? LEFT : this.x(row.lane);
     const isRefused = row.o.verdict !== 'ok';
     this.path(isRefused ? 'hollow' : 'solid', `M${x - 6} ${y}l6 -6l6 6l-6 6z`);
-    const fits = x + 12 + widthOf(row.text) < this.chart.laneEnd;
-    const place = { class: 'label', x: fits ? x + 11 : x - 11, y: y + 4, 'text-anchor': fits ? 'start' : 'end' };
-    this.add(svg('text', place, row.text));
+    // The text stands at the side where it has room, and ends before the addresses of this row.
+    const claims = row.changes.map(change => this.claimOf(change));
+    const right = Math.min(this.chart.laneEnd, ...claims.map(claim => claim.x).filter(at => at > x)) - x - 12;
+    const left = x - 12 - Math.max(LEFT - MARGIN, ...claims.map(claim => claim.x + claim.width).filter(at => at < x));
+    const isLeft = right < widthOf(row.text) && left > right;
+    const place = { class: 'label', x: isLeft ? x - 11 : x + 11, y: y + 4, 'text-anchor': isLeft ? 'end' : 'start' };
+    this.add(svg('text', place, shortened(row.text, Math.floor((isLeft ? left : right) / CHARACTER))));
     if (isRefused) this.drawNote(row.verdict, 'warn');
     else this.drawNote(`line ${row.o.scriptLine}`, 'note');
   }
@@ -349,11 +353,15 @@ class RowPicture {
     this.add(svg('line', { class: 'arrow', x1: LEFT - MARGIN, x2: this.chart.laneEnd, y1: this.y, y2: this.y }));
     this.drawNote('end', 'note');
   }
+  /* Where an address stands: left of its lifeline. */
+  claimOf({ lane, text }) {
+    const width = widthOf(text) + 8;
+    return { x: this.x(lane) - width - 7, width };
+  }
   /* The address that a device has from here on. */
   drawAddress({ lane, text }) {
     const { y } = this;
-    const width = widthOf(text) + 8;
-    const x = this.x(lane) - width - 7;
+    const { x, width } = this.claimOf({ lane, text });
     this.add(svg('rect', { class: 'claim', x, y: y - 8, width, height: 16, rx: 8 }));
     this.add(svg('text', { x: x + width / 2, y: y + 4, 'text-anchor': 'middle' }, text));
   }
@@ -386,10 +394,15 @@ class RowPicture {
     const wide = 62 + widthOf(row.text) + 8;
     const losers = row.losers.map(loser => this.x(loser.lane) - x);
     const isClear = way => !losers.some(at => at * way > 0 && at * way < wide);
-    const isLeft = x + wide > chart.laneEnd || (!isClear(1) && isClear(-1) && x - wide > LEFT - MARGIN);
+    const fits = way => (way > 0 ? x + wide <= chart.laneEnd : x - wide > LEFT - MARGIN);
+    const isLeft = fits(-1) && (!fits(1) || (!isClear(1) && isClear(-1)));
     const way = isLeft ? -1 : 1;
     const end = x + way * 56;
     this.path('arrow', `M${x} ${y}H${end - way * 14}l${3 * way} -6l${4 * way} 12l${4 * way} -12l${3 * way} 6`);
+    if (!isLeft && !fits(1)) {
+      this.drawLabel(row.text, end, y - 9); // at neither side there is room
+      return;
+    }
     const place = { class: 'label', x: end + way * 7, y: y + 4, 'text-anchor': isLeft ? 'end' : 'start' };
     this.add(svg('text', place, row.text));
   }
