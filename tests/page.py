@@ -1403,6 +1403,29 @@ def live_server_is_careful(t, b):
     os.killpg(shell.pid, signal.SIGKILL)  # the shell's sleep
     shell.wait()
     shell.stdout.close()
+    # What `mon --follow` says of a live bus is drawn as it comes, with its audit and what frames mean
+    edges = program(RETRIES, "run", "--edges")
+    told = program(edges, "mon", "--follow", "--from", "edges", "--audit").splitlines(keepends=True)
+    readings = [line.strip() for line in told if not line.startswith(" ")]
+    sentence = program("1571\n", "dis", "--meaning").splitlines()[1].strip()
+    bus = Live("-", stdin=subprocess.PIPE)
+    try:
+        b.open(bus.address)
+        for part in (told[:5], told[5:]):
+            bus.process.stdin.write("".join(part))
+            bus.process.stdin.flush()
+            count = sum(not line.startswith(" ") for line in (told[:5] if part != told[5:] else told))
+            t.holds(f"a live bus: {count} readings", until(b, f"hdminet.app.model.rounds.length === {count}"))
+        t.same("its readings", b.js("[hdminet.app.model.isCapture, hdminet.app.model.rounds.map(o => o.line), hdminet.app.model.faults]"),
+               [True, readings, []])
+        said = [line.strip() for line in told[:told.index("  all readings\n")] if line.startswith(" ")]
+        t.same("its audit", b.js("hdminet.app.model.rounds.flatMap(o => [...o.notes, ...o.remarks].map(one => one.text)).sort()"), sorted(said))
+        asked = b.js("(o => hdminet.meaningOf(o, hdminet.app.model))(hdminet.app.model.rounds.find(o => o.bytes === '1571'))")
+        t.same("what a frame means", asked, f"{sentence[0].upper()}{sentence[1:]}.")
+        bus.process.stdin.close()
+    finally:
+        b.open(BARE)
+        bus.end()
     # A stream of objects is drawn as it comes
     stream = Live("-", stdin=subprocess.PIPE)
     try:
