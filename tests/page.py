@@ -1248,6 +1248,15 @@ def live_page_runs(t, b):
     finally:
         b.open(BARE)  # else the page asks for its server again and again
         live.end()
+    refused = Live(written("refused.net", room.replace("press", "pres")))
+    try:
+        b.open(refused.address)
+        t.holds("a text that is refused from the begin", until(b, "document.getElementById('space').textContent"
+                " === 'No run of this text yet: its fault stands below it.'", 30))
+        t.holds("has its fault", "did you mean `press`?" in b.js("document.querySelector('#source .fault').textContent"))
+    finally:
+        b.open(BARE)
+        refused.end()
     capture = Live(written("live.vcd", as_dump([line.split() for line in program(RETRIES, "run", "--edges").splitlines()], inverted=True)))
     try:
         b.open(capture.address)

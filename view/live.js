@@ -123,6 +123,9 @@ async function run(keeps) {
     fields.hidden = !app.model.isCapture;
     copying.hidden = Boolean(app.model.edid);
     said.textContent = `run in ${found.took} ms, drawn in ${Math.round(performance.now() - began - found.took)} ms`;
+  } else if (app.isReading) {
+    app.waiting = 'No run of this text yet: its fault stands below it.';
+    app.chart.draw();
   }
   markLines();
   performance.mark('shown');

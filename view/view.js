@@ -31,6 +31,8 @@ class App {
   data = null;
   reading = 0;
   isReading = true;
+  /* What stands in the chart's place until then. */
+  waiting = 'The data is being read ..';
   isWaiting = false;
   selected = null;
   banded = null;
@@ -402,7 +404,7 @@ class App {
   whatElse() {
     const { rows, stretches, tests, meanings } = this.model;
     if (rows.length > 0) return html('p', { class: 'empty dim' }, 'No row meets the search.');
-    if (this.isReading) return html('p', { class: 'empty dim' }, 'The data is being read ..');
+    if (this.isReading) return html('p', { class: 'empty dim' }, this.waiting);
     if (stretches.length > 0) return html('div', { class: 'empty' }, drawSweep(this, this.model));
     if (tests.length > 0 || meanings.length > 0) return html('p', { class: 'empty dim' }, 'No rounds: the data is at the right.');
     return html(
