@@ -52,7 +52,7 @@ bin/hdminet-junit 755
 bin/hdminet-cec-device 755
 bin/hdminet-cec-adapter 755'
 # What works together outside of a checkout, with the modes that it has there, and the Python module.
-FILES+=$'\n'$(cd "$top" && find tools/{suite,look,page,page-live,check-room,join-room,junit.py,cec-device,cec-adapter} tools/cec suite view examples tests/real-programs \
+FILES+=$'\n'$(cd "$top" && find tools/{suite,look,page,page-live,check-room,join-room,junit.py,cec-device,cec-adapter} tools/{cec,model/objects.py,model/wire.py} suite view examples tests/real-programs \
   release/view.html -type f ! -name '*.pyc' -printf 'share/hdminet/%p %m\n')
 FILES+=$'\n'$(cd "$top/python" && find hdminet -type f ! -name '*.pyc' -printf 'python/%p 644\n')
 FILES=$(LC_ALL=C sort <<< "$FILES")
@@ -161,6 +161,8 @@ check "the suite works from there" ended 0
 check "and says so" wrote "ok 1 - osd-name: Give OSD Name is answered with the name (CEC 13.11)"
 start env HDMINET_OPEN=true TMPDIR="$room/home" "$dir/bin/hdminet-look" "$at/examples/two-decks.test"
 check "so does the page" ended 0
+start env HDMINET_OPEN=true TMPDIR="$room/home" "$dir/bin/hdminet-look" "$at/examples/first-path.trace"
+check "and that of a plain trace" ended 0
 start "$dir/bin/hdminet-junit" -o "$room/home/film.xml" "$at/examples/film.test"
 check "and a report of JUnit's form" ended 0
 start "$dir/bin/hdminet-cec-device" --help

@@ -5,7 +5,7 @@
 # Lists the files of such a folder by their places in the checkout, one a line. The start script is home_start.
 home_files() (
   cd "$1" || exit 1
-  find tools/{suite,look,page,page-live,check-room,join-room,junit.py,cec-device,cec-adapter} tools/cec suite view examples tests/real-programs \
+  find tools/{suite,look,page,page-live,check-room,join-room,junit.py,cec-device,cec-adapter} tools/{cec,model/objects.py,model/wire.py} suite view examples tests/real-programs \
     release/view.html -type f ! -path '*/__pycache__/*' ! -name '*.pyc' | LC_ALL=C sort
 )
 
