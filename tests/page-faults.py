@@ -150,7 +150,6 @@ PLANTS = [
     ("who answers a poll", "words.js", "(verdict === 'nack' ? 'Nobody answers", "(verdict !== 'nack' ? 'Nobody answers", LOOSE),
     ("how long an answer may take", "answers.js", "const LONGEST = 5000000;", "const LONGEST = 500000;", WORDS),
     ("answers of another device", "answers.js", "return isTo && isFrom && (", "return isTo && (", WORDS),
-    ("spikes as long as --glitch", "texts.js", "changes[i + 1] - changes[i] < shortest", "changes[i + 1] - changes[i] <= shortest", "capture_is_drawn"),
     ("the name of a lane of a capture", "model.js", "/^..47/.test(bytes)", "/^..46/.test(bytes)", CAPTURE),
     ("how much later a row is", "beside.js", "${other.at - one.at} µs", "${one.at - other.at} µs", "runs_stand_beside"),
     ("how many rows are alike", "beside.js", "${counted(same, 'row')}", "${counted(same + 1, 'row')}", "runs_stand_beside"),
