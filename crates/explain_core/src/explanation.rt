@@ -1,5 +1,5 @@
 //! What follows the line of a fault.
-use crate::edids::{add_lack, add_length};
+use crate::edids::{add_edid_fault, add_length, add_line_fault};
 use crate::hints::{is_shown, of_edid, of_edid_text, of_line, of_text, without_return};
 use crate::right::right;
 use edid_core::{EdidCause, EdidError};
@@ -178,6 +178,9 @@ fn add_place(draft: &mut Draft, what: Input, place: InputLine<'_>, fault: InputF
 
 // What is odd about an input that is to be the bytes of an EDID.
 fn add_edid_hints(draft: &mut Draft, fault: InputFault, input: &[u8]) {
+    if let InputFault::Edid(cause) = fault {
+        add_edid_fault(draft, cause, false, input);
+    }
     add_hints(draft, of_edid(input).as_slice());
     if matches!(fault, InputFault::Edid(EdidCause::Edid(EdidError::Length)))
         && !looks_like_dump(input)
@@ -212,7 +215,12 @@ fn add_input_hints(draft: &mut Draft, what: Input, fault: InputFault, input: &[u
             add_hints(draft, of_text(input).as_slice());
             add_hints(draft, of_edid_text(input).as_slice());
         }
-        _ => add_hints(draft, of_text(input).as_slice()),
+        _ => {
+            if let (Input::Lines, InputFault::Edid(cause)) = (what, fault) {
+                add_edid_fault(draft, cause, true, input);
+            }
+            add_hints(draft, of_text(input).as_slice());
+        }
     }
 }
 
@@ -237,8 +245,8 @@ pub fn explain(
     if !is_said {
         draft.add_line(right(fault));
     }
-    if let (InputFault::Edid(EdidCause::NoHdmiBlock), Some(place)) = (fault, place) {
-        add_lack(&mut draft, place);
+    if let (InputFault::Edid(cause), Some(place)) = (fault, place) {
+        add_line_fault(&mut draft, cause, place);
     }
     add_input_hints(&mut draft, what, fault, input);
     draft.finish()

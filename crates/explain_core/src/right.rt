@@ -46,6 +46,7 @@ fn of_script(cause: ScriptCause) -> &'static str {
             "a NAME, CHILD or PARENT of the script has a `device` line in the topology"
         }
         ScriptCause::Frame(cause) => of_frame(cause),
+        ScriptCause::Hex => "HEX has two hex digits a byte, and 1 to 16 bytes",
         ScriptCause::Width => {
             "WIDTH is a number of microseconds, 1 to 10000, of a pull 1 to 10000000"
         }
@@ -202,7 +203,7 @@ fn of_edid(error: EdidError) -> &'static str {
             "an EDID has 128, 256, 384 or 512 bytes: a base block and up to three extensions of 128 bytes each"
         }
         EdidError::Count => {
-            "byte 126 of the base block is the number of the extensions that follow; `--eeodb` goes by the HDMI Forum's count, `--as-source` as a source does"
+            "byte 126 of the base block is the number of the extensions that follow"
         }
         EdidError::Base(error) => of_base(error),
         EdidError::Ext(..) => {

@@ -58,8 +58,8 @@ extended 7900ff01788060023090|  byte 2 is ff/  HDMI Forum version 1, TMDS up to 
 extended 790180017880|  byte 1 is 01, byte 2 is 80/  HDMI Forum version 1, TMDS up to 600 MHz, SCDC/
 vendor 1a000001012890|  AMD FreeSync version 1.1, from 40 Hz to 144 Hz/
 vendor 1a00000201289000|  AMD FreeSync version 2.1, from 40 Hz to 144 Hz/
-vendor 1a0000020128900004735a2014|  AMD FreeSync version 2.1, from 40 Hz to 144 Hz, luminances without local dimming, up to 604 cd/m2, down to 0.752 cd/m2, without local dimming up to 100 cd/m2, down to 0.006 cd/m2/
-vendor 1a00000201289007fb00000000aabb|  AMD FreeSync version 2.1, from 40 Hz to 144 Hz, by MCCS with VCP code 07, reserved bits 03, reserved bits f8, then in hex aabb/
+vendor 1a0000020128900004735a2014|  AMD FreeSync version 2.1, from 40 Hz to 144 Hz, luminances without local dimming, up to 604 cd/m2, down to 0.752 cd/m2, without local dimming up to 100 cd/m2, down to 0.0062 cd/m2/
+vendor 1a00000201289007fb00000000aabb|  AMD FreeSync version 2.1, from 40 Hz to 144 Hz, by MCCS with VCP code 07, other bits of byte 6 are fb, then in hex aabb/
 vendor 1a0000|  AMD FreeSync/
 vendor 4b0400|  NVIDIA/
 vendor 4b040001|  NVIDIA, then in hex 01/
@@ -74,10 +74,10 @@ vendor 5c12ca0361|  Microsoft version 3, for the desktop, by others, use case 1,
 vendor 123456|
 extended 0146d0000701|  Dolby Vision version 0, then in hex 0701/
 extended 0146d0006701|  Dolby Vision version 3, then in hex 6701/
-extended 0146d00024180900ad5244a9230c|  Dolby Vision version 1, display management 3.x, up to 700 cd/m2, down to (4/127)^2 cd/m2, near P3-D65/  red 0.6758 0.3203, green 0.2656 0.6602, blue 0.1367 0.0469/
-extended 0146d0002319080aad5244a9230cee|  Dolby Vision version 1, display management 2.x, YCbCr 4:2:2 at 12 bits, 2160p60, global dimming, up to 700 cd/m2, down to (4/127)^2 cd/m2, near BT.709/  byte 4 is 0a, red 0.6758 0.3203, green 0.2656 0.6602, blue 0.1367 0.0469, then in hex ee/
-extended 0146d0002680016a4cfe98|  Dolby Vision version 1, display management 3.x, 2160p60, up to 3300 cd/m2, down to (0/127)^2 cd/m2, near P3-D65/  latency 2 (reserved), blue 0.1367 0.0391, green 0.1484 0.9961, red 0.6992 0.2500/
-extended 0146d000480a9d4a665d4a|  Dolby Vision version 2, display management 4.x, backlight from 75 cd/m2 on, least PQ code 20, greatest PQ code 3290, low latency, also over HDMI, reserved bits 04/  red 0.6680 0.2852, green 0.1445 0.6992, blue 0.1445 0.0391/
+extended 0146d00024180900ad5244a9230c|  Dolby Vision version 1, display management 3.x, up to 700 cd/m2, down to 0.00099 cd/m2, near P3-D65/  red 0.6758 0.3203, green 0.2656 0.6602, blue 0.1367 0.0469/
+extended 0146d0002319080aad5244a9230cee|  Dolby Vision version 1, display management 2.x, YCbCr 4:2:2 at 12 bits, 2160p60, global dimming, up to 700 cd/m2, down to 0.00099 cd/m2, near BT.709/  byte 4 is 0a, red 0.6758 0.3203, green 0.2656 0.6602, blue 0.1367 0.0469, then in hex ee/
+extended 0146d0002680016a4cfe98|  Dolby Vision version 1, display management 3.x, 2160p60, up to 3300 cd/m2, down to 0 cd/m2, near P3-D65/  latency 2 (reserved), blue 0.1367 0.0391, green 0.1484 0.9961, red 0.6992 0.2500/
+extended 0146d000480a9d4a665d4a|  Dolby Vision version 2, display management 4.x, backlight from 75 cd/m2 on, up to 1605 cd/m2, down to 0.00064 cd/m2, low latency, also over HDMI, reserved bits 04/  red 0.6680 0.2852, green 0.1445 0.6992, blue 0.1445 0.0391/
 extended 018b849001|  HDR10+ version 1/
 extended 018b84908d02|  HDR10+ version 1, other bits of byte 1 are 8c, then in hex 02/
 extended 01123456|
@@ -140,10 +140,10 @@ extended 060001|  static metadata type 1/
 extended 06000020|  content up to 100 cd/m2/
 extended 0600000020|  frames on average up to 100 cd/m2/
 extended 060000000020|  least luminance by code 32/
-extended 060000ff0001|  content up to 12526 cd/m2, down to 0.002 cd/m2/
+extended 060000ff0001|  content up to 12526 cd/m2, down to 0.0019 cd/m2/
 extended 060000ff00ff|  content up to 12526 cd/m2, down to 125.257 cd/m2/
 extended 060000200020|  content up to 100 cd/m2, down to 0.016 cd/m2/
-extended 060000010001|  content up to 51 cd/m2, down to 0.000 cd/m2/
+extended 060000010001|  content up to 51 cd/m2, down to 0.000008 cd/m2/
 extended 060000600080|  content up to 400 cd/m2, down to 1.008 cd/m2/
 extended 0040|  RGB range selectable, no IT formats, no CE formats/
 extended 0080|  YCC range selectable, no IT formats, no CE formats/
@@ -292,29 +292,73 @@ displayid 70121700000300144cd00009ff0e9f002f801f006f083d0002000400|  version 1.2
 
 /// Each bit of Dolby's video block alone, of versions 1 and 2, as `edid-decode` reads it.
 const DOLBY_BITS: &str = "\
-extended 0146d00040000000000101|  Dolby Vision version 2, display management 2.x, backlight from 25 cd/m2 on, least PQ code 0, greatest PQ code 2055, low latency/  red 0.6250 0.2500, green 0.0000 0.5000, blue 0.1289 0.0352/
-extended 0146d00044000000000101|  Dolby Vision version 2, display management 3.x, backlight from 25 cd/m2 on, least PQ code 0, greatest PQ code 2055, low latency/  red 0.6250 0.2500, green 0.0000 0.5000, blue 0.1289 0.0352/
-extended 0146d00041000000000101|  Dolby Vision version 2, display management 2.x, YCbCr 4:2:2 at 12 bits, backlight from 25 cd/m2 on, least PQ code 0, greatest PQ code 2055, low latency/  red 0.6250 0.2500, green 0.0000 0.5000, blue 0.1289 0.0352/
-extended 0146d00042000000000101|  Dolby Vision version 2, display management 2.x, backlight control, backlight from 25 cd/m2 on, least PQ code 0, greatest PQ code 2055, low latency/  red 0.6250 0.2500, green 0.0000 0.5000, blue 0.1289 0.0352/
-extended 0146d00040010000000101|  Dolby Vision version 2, display management 2.x, backlight from 50 cd/m2 on, least PQ code 0, greatest PQ code 2055, low latency/  red 0.6250 0.2500, green 0.0000 0.5000, blue 0.1289 0.0352/
-extended 0146d00040030000000101|  Dolby Vision version 2, display management 2.x, backlight from 100 cd/m2 on, least PQ code 0, greatest PQ code 2055, low latency/  red 0.6250 0.2500, green 0.0000 0.5000, blue 0.1289 0.0352/
-extended 0146d00040040000000101|  Dolby Vision version 2, display management 2.x, backlight from 25 cd/m2 on, global dimming, least PQ code 0, greatest PQ code 2055, low latency/  red 0.6250 0.2500, green 0.0000 0.5000, blue 0.1289 0.0352/
-extended 0146d00040080000000101|  Dolby Vision version 2, display management 2.x, backlight from 25 cd/m2 on, least PQ code 20, greatest PQ code 2055, low latency/  red 0.6250 0.2500, green 0.0000 0.5000, blue 0.1289 0.0352/
-extended 0146d00040000800000101|  Dolby Vision version 2, display management 2.x, backlight from 25 cd/m2 on, least PQ code 0, greatest PQ code 2120, low latency/  red 0.6250 0.2500, green 0.0000 0.5000, blue 0.1289 0.0352/
-extended 0146d00040000100000101|  Dolby Vision version 2, display management 2.x, backlight from 25 cd/m2 on, least PQ code 0, greatest PQ code 2055, low latency, also over HDMI/  red 0.6250 0.2500, green 0.0000 0.5000, blue 0.1289 0.0352/
-extended 0146d00040000200000101|  Dolby Vision version 2, display management 2.x, backlight from 25 cd/m2 on, least PQ code 0, greatest PQ code 2055, standard and low latency/  red 0.6250 0.2500, green 0.0000 0.5000, blue 0.1289 0.0352/
-extended 0146d00040000300000101|  Dolby Vision version 2, display management 2.x, backlight from 25 cd/m2 on, least PQ code 0, greatest PQ code 2055, standard and low latency, also over HDMI/  red 0.6250 0.2500, green 0.0000 0.5000, blue 0.1289 0.0352/
-extended 0146d00040000400000101|  Dolby Vision version 2, display management 2.x, backlight from 25 cd/m2 on, least PQ code 0, greatest PQ code 2055, low latency, reserved bits 04/  red 0.6250 0.2500, green 0.0000 0.5000, blue 0.1289 0.0352/
-extended 0146d00040000001000101|  Dolby Vision version 2, display management 2.x, backlight from 25 cd/m2 on, least PQ code 0, greatest PQ code 2055, low latency, 4:4:4 at 12 bits/  red 0.6250 0.2500, green 0.0000 0.5000, blue 0.1289 0.0352/
-extended 0146d00040000000010101|  Dolby Vision version 2, display management 2.x, backlight from 25 cd/m2 on, least PQ code 0, greatest PQ code 2055, low latency, 4:4:4 at 10 bits/  red 0.6250 0.2500, green 0.0000 0.5000, blue 0.1289 0.0352/
-extended 0146d000268001684cfe98|  Dolby Vision version 1, display management 3.x, 2160p60, up to 3300 cd/m2, down to (0/127)^2 cd/m2, near P3-D65/  standard latency, blue 0.1367 0.0391, green 0.1484 0.9961, red 0.6992 0.2500/
-extended 0146d000268001694cfe98|  Dolby Vision version 1, display management 3.x, 2160p60, up to 3300 cd/m2, down to (0/127)^2 cd/m2, near P3-D65/  standard and low latency, blue 0.1367 0.0391, green 0.1484 0.9961, red 0.6992 0.2500/
-extended 0146d0002680016b4cfe98|  Dolby Vision version 1, display management 3.x, 2160p60, up to 3300 cd/m2, down to (0/127)^2 cd/m2, near P3-D65/  latency 3 (reserved), blue 0.1367 0.0391, green 0.1484 0.9961, red 0.6992 0.2500/
-extended 0146d000200000|  Dolby Vision version 1, display management 2.x, up to 100 cd/m2, down to (0/127)^2 cd/m2, near BT.709/
-extended 0146d000210000|  Dolby Vision version 1, display management 2.x, YCbCr 4:2:2 at 12 bits, up to 100 cd/m2, down to (0/127)^2 cd/m2, near BT.709/
-extended 0146d000220000|  Dolby Vision version 1, display management 2.x, 2160p60, up to 100 cd/m2, down to (0/127)^2 cd/m2, near BT.709/
-extended 0146d000200100|  Dolby Vision version 1, display management 2.x, global dimming, up to 100 cd/m2, down to (0/127)^2 cd/m2, near BT.709/
-extended 0146d000200200|  Dolby Vision version 1, display management 2.x, up to 150 cd/m2, down to (0/127)^2 cd/m2, near BT.709/";
+extended 0146d00040000000000101|  Dolby Vision version 2, display management 2.x, backlight from 25 cd/m2 on, up to 94 cd/m2, down to 0 cd/m2, low latency/  red 0.6250 0.2500, green 0.0000 0.5000, blue 0.1289 0.0352/
+extended 0146d00044000000000101|  Dolby Vision version 2, display management 3.x, backlight from 25 cd/m2 on, up to 94 cd/m2, down to 0 cd/m2, low latency/  red 0.6250 0.2500, green 0.0000 0.5000, blue 0.1289 0.0352/
+extended 0146d00041000000000101|  Dolby Vision version 2, display management 2.x, YCbCr 4:2:2 at 12 bits, backlight from 25 cd/m2 on, up to 94 cd/m2, down to 0 cd/m2, low latency/  red 0.6250 0.2500, green 0.0000 0.5000, blue 0.1289 0.0352/
+extended 0146d00042000000000101|  Dolby Vision version 2, display management 2.x, backlight control, backlight from 25 cd/m2 on, up to 94 cd/m2, down to 0 cd/m2, low latency/  red 0.6250 0.2500, green 0.0000 0.5000, blue 0.1289 0.0352/
+extended 0146d00040010000000101|  Dolby Vision version 2, display management 2.x, backlight from 50 cd/m2 on, up to 94 cd/m2, down to 0 cd/m2, low latency/  red 0.6250 0.2500, green 0.0000 0.5000, blue 0.1289 0.0352/
+extended 0146d00040030000000101|  Dolby Vision version 2, display management 2.x, backlight from 100 cd/m2 on, up to 94 cd/m2, down to 0 cd/m2, low latency/  red 0.6250 0.2500, green 0.0000 0.5000, blue 0.1289 0.0352/
+extended 0146d00040040000000101|  Dolby Vision version 2, display management 2.x, backlight from 25 cd/m2 on, global dimming, up to 94 cd/m2, down to 0 cd/m2, low latency/  red 0.6250 0.2500, green 0.0000 0.5000, blue 0.1289 0.0352/
+extended 0146d00040080000000101|  Dolby Vision version 2, display management 2.x, backlight from 25 cd/m2 on, up to 94 cd/m2, down to 0.00064 cd/m2, low latency/  red 0.6250 0.2500, green 0.0000 0.5000, blue 0.1289 0.0352/
+extended 0146d00040000800000101|  Dolby Vision version 2, display management 2.x, backlight from 25 cd/m2 on, up to 110 cd/m2, down to 0 cd/m2, low latency/  red 0.6250 0.2500, green 0.0000 0.5000, blue 0.1289 0.0352/
+extended 0146d00040000100000101|  Dolby Vision version 2, display management 2.x, backlight from 25 cd/m2 on, up to 94 cd/m2, down to 0 cd/m2, low latency, also over HDMI/  red 0.6250 0.2500, green 0.0000 0.5000, blue 0.1289 0.0352/
+extended 0146d00040000200000101|  Dolby Vision version 2, display management 2.x, backlight from 25 cd/m2 on, up to 94 cd/m2, down to 0 cd/m2, standard and low latency/  red 0.6250 0.2500, green 0.0000 0.5000, blue 0.1289 0.0352/
+extended 0146d00040000300000101|  Dolby Vision version 2, display management 2.x, backlight from 25 cd/m2 on, up to 94 cd/m2, down to 0 cd/m2, standard and low latency, also over HDMI/  red 0.6250 0.2500, green 0.0000 0.5000, blue 0.1289 0.0352/
+extended 0146d00040000400000101|  Dolby Vision version 2, display management 2.x, backlight from 25 cd/m2 on, up to 94 cd/m2, down to 0 cd/m2, low latency, reserved bits 04/  red 0.6250 0.2500, green 0.0000 0.5000, blue 0.1289 0.0352/
+extended 0146d00040000001000101|  Dolby Vision version 2, display management 2.x, backlight from 25 cd/m2 on, up to 94 cd/m2, down to 0 cd/m2, low latency, 4:4:4 at 12 bits/  red 0.6250 0.2500, green 0.0000 0.5000, blue 0.1289 0.0352/
+extended 0146d00040000000010101|  Dolby Vision version 2, display management 2.x, backlight from 25 cd/m2 on, up to 94 cd/m2, down to 0 cd/m2, low latency, 4:4:4 at 10 bits/  red 0.6250 0.2500, green 0.0000 0.5000, blue 0.1289 0.0352/
+extended 0146d000268001684cfe98|  Dolby Vision version 1, display management 3.x, 2160p60, up to 3300 cd/m2, down to 0 cd/m2, near P3-D65/  standard latency, blue 0.1367 0.0391, green 0.1484 0.9961, red 0.6992 0.2500/
+extended 0146d000268001694cfe98|  Dolby Vision version 1, display management 3.x, 2160p60, up to 3300 cd/m2, down to 0 cd/m2, near P3-D65/  standard and low latency, blue 0.1367 0.0391, green 0.1484 0.9961, red 0.6992 0.2500/
+extended 0146d0002680016b4cfe98|  Dolby Vision version 1, display management 3.x, 2160p60, up to 3300 cd/m2, down to 0 cd/m2, near P3-D65/  latency 3 (reserved), blue 0.1367 0.0391, green 0.1484 0.9961, red 0.6992 0.2500/
+extended 0146d000200000|  Dolby Vision version 1, display management 2.x, up to 100 cd/m2, down to 0 cd/m2, near BT.709/
+extended 0146d000210000|  Dolby Vision version 1, display management 2.x, YCbCr 4:2:2 at 12 bits, up to 100 cd/m2, down to 0 cd/m2, near BT.709/
+extended 0146d000220000|  Dolby Vision version 1, display management 2.x, 2160p60, up to 100 cd/m2, down to 0 cd/m2, near BT.709/
+extended 0146d000200100|  Dolby Vision version 1, display management 2.x, global dimming, up to 100 cd/m2, down to 0 cd/m2, near BT.709/
+extended 0146d00040080800000101|  Dolby Vision version 2, display management 2.x, backlight from 25 cd/m2 on, up to 110 cd/m2, down to 0.00064 cd/m2, low latency/  red 0.6250 0.2500, green 0.0000 0.5000, blue 0.1289 0.0352/
+extended 0146d00040101000000101|  Dolby Vision version 2, display management 2.x, backlight from 25 cd/m2 on, up to 129 cd/m2, down to 0.0022 cd/m2, low latency/  red 0.6250 0.2500, green 0.0000 0.5000, blue 0.1289 0.0352/
+extended 0146d00040181800000101|  Dolby Vision version 2, display management 2.x, backlight from 25 cd/m2 on, up to 150 cd/m2, down to 0.0047 cd/m2, low latency/  red 0.6250 0.2500, green 0.0000 0.5000, blue 0.1289 0.0352/
+extended 0146d00040202000000101|  Dolby Vision version 2, display management 2.x, backlight from 25 cd/m2 on, up to 175 cd/m2, down to 0.0083 cd/m2, low latency/  red 0.6250 0.2500, green 0.0000 0.5000, blue 0.1289 0.0352/
+extended 0146d00040282800000101|  Dolby Vision version 2, display management 2.x, backlight from 25 cd/m2 on, up to 204 cd/m2, down to 0.013 cd/m2, low latency/  red 0.6250 0.2500, green 0.0000 0.5000, blue 0.1289 0.0352/
+extended 0146d00040303000000101|  Dolby Vision version 2, display management 2.x, backlight from 25 cd/m2 on, up to 237 cd/m2, down to 0.019 cd/m2, low latency/  red 0.6250 0.2500, green 0.0000 0.5000, blue 0.1289 0.0352/
+extended 0146d00040383800000101|  Dolby Vision version 2, display management 2.x, backlight from 25 cd/m2 on, up to 276 cd/m2, down to 0.026 cd/m2, low latency/  red 0.6250 0.2500, green 0.0000 0.5000, blue 0.1289 0.0352/
+extended 0146d00040404000000101|  Dolby Vision version 2, display management 2.x, backlight from 25 cd/m2 on, up to 320 cd/m2, down to 0.035 cd/m2, low latency/  red 0.6250 0.2500, green 0.0000 0.5000, blue 0.1289 0.0352/
+extended 0146d00040484800000101|  Dolby Vision version 2, display management 2.x, backlight from 25 cd/m2 on, up to 372 cd/m2, down to 0.045 cd/m2, low latency/  red 0.6250 0.2500, green 0.0000 0.5000, blue 0.1289 0.0352/
+extended 0146d00040505000000101|  Dolby Vision version 2, display management 2.x, backlight from 25 cd/m2 on, up to 431 cd/m2, down to 0.057 cd/m2, low latency/  red 0.6250 0.2500, green 0.0000 0.5000, blue 0.1289 0.0352/
+extended 0146d00040585800000101|  Dolby Vision version 2, display management 2.x, backlight from 25 cd/m2 on, up to 499 cd/m2, down to 0.071 cd/m2, low latency/  red 0.6250 0.2500, green 0.0000 0.5000, blue 0.1289 0.0352/
+extended 0146d00040606000000101|  Dolby Vision version 2, display management 2.x, backlight from 25 cd/m2 on, up to 578 cd/m2, down to 0.086 cd/m2, low latency/  red 0.6250 0.2500, green 0.0000 0.5000, blue 0.1289 0.0352/
+extended 0146d00040686800000101|  Dolby Vision version 2, display management 2.x, backlight from 25 cd/m2 on, up to 670 cd/m2, down to 0.104 cd/m2, low latency/  red 0.6250 0.2500, green 0.0000 0.5000, blue 0.1289 0.0352/
+extended 0146d00040707000000101|  Dolby Vision version 2, display management 2.x, backlight from 25 cd/m2 on, up to 775 cd/m2, down to 0.125 cd/m2, low latency/  red 0.6250 0.2500, green 0.0000 0.5000, blue 0.1289 0.0352/
+extended 0146d00040787800000101|  Dolby Vision version 2, display management 2.x, backlight from 25 cd/m2 on, up to 897 cd/m2, down to 0.147 cd/m2, low latency/  red 0.6250 0.2500, green 0.0000 0.5000, blue 0.1289 0.0352/
+extended 0146d00040808000000101|  Dolby Vision version 2, display management 2.x, backlight from 25 cd/m2 on, up to 1037 cd/m2, down to 0.173 cd/m2, low latency/  red 0.6250 0.2500, green 0.0000 0.5000, blue 0.1289 0.0352/
+extended 0146d00040888800000101|  Dolby Vision version 2, display management 2.x, backlight from 25 cd/m2 on, up to 1200 cd/m2, down to 0.201 cd/m2, low latency/  red 0.6250 0.2500, green 0.0000 0.5000, blue 0.1289 0.0352/
+extended 0146d00040909000000101|  Dolby Vision version 2, display management 2.x, backlight from 25 cd/m2 on, up to 1387 cd/m2, down to 0.233 cd/m2, low latency/  red 0.6250 0.2500, green 0.0000 0.5000, blue 0.1289 0.0352/
+extended 0146d00040989800000101|  Dolby Vision version 2, display management 2.x, backlight from 25 cd/m2 on, up to 1605 cd/m2, down to 0.267 cd/m2, low latency/  red 0.6250 0.2500, green 0.0000 0.5000, blue 0.1289 0.0352/
+extended 0146d00040a0a000000101|  Dolby Vision version 2, display management 2.x, backlight from 25 cd/m2 on, up to 1856 cd/m2, down to 0.305 cd/m2, low latency/  red 0.6250 0.2500, green 0.0000 0.5000, blue 0.1289 0.0352/
+extended 0146d00040a8a800000101|  Dolby Vision version 2, display management 2.x, backlight from 25 cd/m2 on, up to 2147 cd/m2, down to 0.347 cd/m2, low latency/  red 0.6250 0.2500, green 0.0000 0.5000, blue 0.1289 0.0352/
+extended 0146d00040b0b000000101|  Dolby Vision version 2, display management 2.x, backlight from 25 cd/m2 on, up to 2485 cd/m2, down to 0.393 cd/m2, low latency/  red 0.6250 0.2500, green 0.0000 0.5000, blue 0.1289 0.0352/
+extended 0146d00040b8b800000101|  Dolby Vision version 2, display management 2.x, backlight from 25 cd/m2 on, up to 2876 cd/m2, down to 0.443 cd/m2, low latency/  red 0.6250 0.2500, green 0.0000 0.5000, blue 0.1289 0.0352/
+extended 0146d00040c0c000000101|  Dolby Vision version 2, display management 2.x, backlight from 25 cd/m2 on, up to 3330 cd/m2, down to 0.497 cd/m2, low latency/  red 0.6250 0.2500, green 0.0000 0.5000, blue 0.1289 0.0352/
+extended 0146d00040c8c800000101|  Dolby Vision version 2, display management 2.x, backlight from 25 cd/m2 on, up to 3857 cd/m2, down to 0.556 cd/m2, low latency/  red 0.6250 0.2500, green 0.0000 0.5000, blue 0.1289 0.0352/
+extended 0146d00040d0d000000101|  Dolby Vision version 2, display management 2.x, backlight from 25 cd/m2 on, up to 4470 cd/m2, down to 0.621 cd/m2, low latency/  red 0.6250 0.2500, green 0.0000 0.5000, blue 0.1289 0.0352/
+extended 0146d00040d8d800000101|  Dolby Vision version 2, display management 2.x, backlight from 25 cd/m2 on, up to 5183 cd/m2, down to 0.690 cd/m2, low latency/  red 0.6250 0.2500, green 0.0000 0.5000, blue 0.1289 0.0352/
+extended 0146d00040e0e000000101|  Dolby Vision version 2, display management 2.x, backlight from 25 cd/m2 on, up to 6014 cd/m2, down to 0.766 cd/m2, low latency/  red 0.6250 0.2500, green 0.0000 0.5000, blue 0.1289 0.0352/
+extended 0146d00040e8e800000101|  Dolby Vision version 2, display management 2.x, backlight from 25 cd/m2 on, up to 6982 cd/m2, down to 0.847 cd/m2, low latency/  red 0.6250 0.2500, green 0.0000 0.5000, blue 0.1289 0.0352/
+extended 0146d00040f0f000000101|  Dolby Vision version 2, display management 2.x, backlight from 25 cd/m2 on, up to 8113 cd/m2, down to 0.935 cd/m2, low latency/  red 0.6250 0.2500, green 0.0000 0.5000, blue 0.1289 0.0352/
+extended 0146d00040f8f800000101|  Dolby Vision version 2, display management 2.x, backlight from 25 cd/m2 on, up to 9434 cd/m2, down to 1.029 cd/m2, low latency/  red 0.6250 0.2500, green 0.0000 0.5000, blue 0.1289 0.0352/
+extended 0146d000200002|  Dolby Vision version 1, display management 2.x, up to 100 cd/m2, down to 0.000062 cd/m2, near BT.709/
+extended 0146d000200006|  Dolby Vision version 1, display management 2.x, up to 100 cd/m2, down to 0.00056 cd/m2, near BT.709/
+extended 0146d000200018|  Dolby Vision version 1, display management 2.x, up to 100 cd/m2, down to 0.0089 cd/m2, near BT.709/
+extended 0146d00020001a|  Dolby Vision version 1, display management 2.x, up to 100 cd/m2, down to 0.010 cd/m2, near BT.709/
+extended 0146d0002000fc|  Dolby Vision version 1, display management 2.x, up to 100 cd/m2, down to 0.984 cd/m2, near BT.709/
+extended 0146d0002000fe|  Dolby Vision version 1, display management 2.x, up to 100 cd/m2, down to 1.000 cd/m2, near BT.709/
+extended 060000780001|  content up to 673 cd/m2, down to 0.00010 cd/m2/
+extended 060000780003|  content up to 673 cd/m2, down to 0.00093 cd/m2/
+extended 060000780004|  content up to 673 cd/m2, down to 0.0017 cd/m2/
+extended 06000078000a|  content up to 673 cd/m2, down to 0.010 cd/m2/
+extended 0600007800ff|  content up to 673 cd/m2, down to 6.727 cd/m2/
+vendor 1a0000020128900000735a082f|  AMD FreeSync version 2.1, from 40 Hz to 144 Hz, up to 604 cd/m2, down to 0.752 cd/m2, byte 9 is 08, byte 10 is 2f/
+vendor 1a000002012890e601735a0000|  AMD FreeSync version 2.1, from 40 Hz to 144 Hz, by MCCS with VCP code e6, other bits of byte 6 are 01, up to 604 cd/m2, down to 0.752 cd/m2/
+extended 0146d000200200|  Dolby Vision version 1, display management 2.x, up to 150 cd/m2, down to 0 cd/m2, near BT.709/";
 
 fn are_reported(rt: &(impl Abort + AllocGlobal), rows: &str) {
     for row in rows.lines() {

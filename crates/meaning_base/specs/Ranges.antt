@@ -33,9 +33,11 @@ limits_text r p = field_text r p ++ (line_text r p ++ clock_text (slice_index p 
 
 -- ---- formulas
 
--- bit 0 of the features says whether the default GTF is there
-abbrev pub gtf_text : ℕ → List ℕ
-gtf_text features = if is_set features 1 then codes ", GTF" else codes ", no formula"
+-- The form 00: in 1.3 no second formula, and bit 0 of the features says whether the default GTF is there (section 3.6.4); in 1.4 it is
+-- the default GTF by itself (E-EDID 1.4, section 3.10.3.3), and a display without that bit has another form.
+abbrev pub gtf_text : Revision → ℕ → List ℕ
+gtf_text Three features = if is_set features 1 then codes ", GTF" else codes ", no formula"
+gtf_text Four features = codes ", GTF"
 
 abbrev pub new_name : Revision → ℕ → List ℕ
 new_name Three form = codes ", form " ++ encode_lower (form ∷ [])
@@ -44,7 +46,7 @@ new_name Four form =
 
 abbrev pub form_name : Revision → ℕ → ℕ → List ℕ
 form_name r features form =
-    if form == 0 then gtf_text features else if form == 2 then codes ", second GTF" else new_name r form
+    if form == 0 then gtf_text r features else if form == 2 then codes ", second GTF" else new_name r form
 
 -- start in units of 2 kHz; C and J twice, M with its low byte first, K
 abbrev pub second_text : List ℕ → List ℕ

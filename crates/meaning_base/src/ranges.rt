@@ -118,14 +118,19 @@ fn append_limits(note: &mut Note, revision: Revision, bytes: &[u8])
     append_clock(note, byte_at(bytes, 5));
 }
 
-fn gtf_text(features: u8) -> &'static str
-    ensures value { result.now ≡ gtf_text features }
+fn gtf_text(revision: Revision, features: u8) -> &'static str
+    ensures value { result.now ≡ gtf_text revision features }
     ensures short { length result.now ≤ 14 }
 {
-    if is_set(u32::from(features), GTF) {
-        ", GTF"
-    } else {
-        ", no formula"
+    match revision {
+        Revision::Three => {
+            if is_set(u32::from(features), GTF) {
+                ", GTF"
+            } else {
+                ", no formula"
+            }
+        }
+        Revision::Four => ", GTF",
     }
 }
 
@@ -147,7 +152,7 @@ fn append_form_name(note: &mut Note, revision: Revision, features: u8, form: u8)
     ensures len { array_vec_len note.new ≤ array_vec_len note.old + 20 }
 {
     match form {
-        0 => append(note, gtf_text(features).as_bytes()),
+        0 => append(note, gtf_text(revision, features).as_bytes()),
         SECOND_GTF => append(note, b", second GTF"),
         _ => append_new_name(note, revision, form),
     }
@@ -300,8 +305,8 @@ fn range_note(revision: Revision, features: u8, bytes: &[u8]) -> Note
 }
 
 /// Appends the limits of a display's ranges, of the 14 bytes after their tag: of field and line rates and of the pixel
-/// clock, and the formula that it has for timings, with its parameters on a line of their own. Bit 0 of the features reports
-/// of the default GTF (E-EDID Release A, section 3.10.3.3).
+/// clock, and the formula that it has for timings, with its parameters on a line of their own. In 1.3 bit 0 of the features reports
+/// of the default GTF (E-EDID Release A, section 3.10.3.3); in 1.4 a form of 00 does (E-EDID 1.4, section 3.10.3.3).
 #[tactic(auto, unfolding(crate::specs::Ranges::range_meanings))]
 pub fn append_range(page: &mut Page, revision: Revision, features: u8, bytes: &[u8])
     requires { array_vec_len page.old + 910 ≤ PAGE }

@@ -99,10 +99,11 @@ joint_rows =
     field 0 1 1 4 (words [] ([] ∷ codes ", joint object coding (Dolby Atmos)" ∷ codes ", joint object coding with ACMOD 28 alone" ∷ codes ", joint object coding (Dolby Atmos), also with ACMOD 28" ∷ [])) ∷
     field 0 1 4 64 (hex (codes ", reserved bits ") 4) ∷ []
 
--- MAT, which carries TrueHD: with bit 0 object audio and channels too, which are Dolby Atmos
+-- MAT, which carries TrueHD: with bit 0 object audio and channels too, which are Dolby Atmos, and of these bit 1 says whether they need
+-- a hash
 abbrev pub mat_rows : List FieldRow
 mat_rows =
-    field 0 1 1 4 (words [] (codes ", TrueHD alone" ∷ codes ", objects and channels (Dolby Atmos), hash needed" ∷ codes ", TrueHD alone, no hash needed" ∷ codes ", objects and channels (Dolby Atmos), no hash needed" ∷ [])) ∷
+    field 0 1 1 4 (words [] (codes ", TrueHD alone" ∷ codes ", objects and channels (Dolby Atmos), hash needed" ∷ codes ", TrueHD alone" ∷ codes ", objects and channels (Dolby Atmos), no hash needed" ∷ [])) ∷
     field 0 1 4 64 (hex (codes ", reserved bits ") 4) ∷ []
 
 -- WMA Pro

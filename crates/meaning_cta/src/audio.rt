@@ -55,7 +55,7 @@ const JOINT: &[Field] = field_rows! {
 };
 
 const MATS: &[Field] = field_rows! {
-    0 1 1 4 FieldSays::Words { before: "", texts: choices! { ", TrueHD alone"; ", objects and channels (Dolby Atmos), hash needed"; ", TrueHD alone, no hash needed"; ", objects and channels (Dolby Atmos), no hash needed"; } };
+    0 1 1 4 FieldSays::Words { before: "", texts: choices! { ", TrueHD alone"; ", objects and channels (Dolby Atmos), hash needed"; ", TrueHD alone"; ", objects and channels (Dolby Atmos), no hash needed"; } };
     0 1 4 64 FieldSays::Hex(", reserved bits ");
 };
 

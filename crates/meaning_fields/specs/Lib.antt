@@ -1,3 +1,4 @@
+pub mod Figures
 pub mod Luminance
 pub mod Fields
 pub mod Places

@@ -1,8 +1,9 @@
 -- Luminances of HDR by their codes (CTA-861-G, section 7.5.13): 50 * 2 ^ (code / 32) cd/m2.
-use Rattle.std.specs.Prelude.{◌≡◌, ℕ, ◌+◌, ◌-◌, ◌*◌, ◌^◌, ◌&&◌, nat_le, ◌/◌, ◌%◌, ◌==◌, if◌then◌else◌, Bool, true, List, [], ◌∷◌, ◌++◌, codes, slice_index}
+use Rattle.std.specs.Prelude.{◌≡◌, ℕ, ◌+◌, ◌-◌, ◌*◌, ◌^◌, ◌&&◌, nat_le, ◌/◌, ◌%◌, ◌==◌, if◌then◌else◌, Bool, true, List, [], ◌∷◌, codes, slice_index}
 use Rattle.std.specs.List.{list_all, range_with_len}
-use Rattle.meaning_words.specs.Notes.{text_between, thousandths}
+use Rattle.meaning_words.specs.Notes.{text_between}
 use Rattle.meaning_words.specs.Rates.{nearest}
+use Rattle.meaning_fields.specs.Figures.{figure_unit, down_to}
 use Rattle.meaning_fields.specs.declared.brightness.TheConstants.{LUMINANCES, FINE_LUMINANCES}
 
 -- the whole number of a code
@@ -26,20 +27,28 @@ LuminancesAreNearest = are_nearest 0 LUMINANCES.now ≡ true
 unfoldable pub fine_luminance : ℕ → ℕ
 fine_luminance code = slice_index FINE_LUMINANCES.now code
 
--- in thousandths of 1 cd/m2: 1000 * (fine / 262144) * code ^ 2 / 65025 / 100
-abbrev pub least_thousandths : ℕ → ℕ → ℕ
-least_thousandths greatest code = nearest (2 * (fine_luminance greatest * (code * code))) (262144 * 13005)
+-- in thousandths of 1 cd/m2 a quotient of two numbers: 1000 * (fine / 262144) * code ^ 2 / 65025 / 100
+abbrev pub least_number : ℕ → ℕ → ℕ
+least_number greatest code = 2 * (fine_luminance greatest * (code * code))
 
--- r is at most 1/2 away from 1000 * 50 * 2 ^ (greatest / 32) * (code / 255) ^ 2 / 100: twice both, times 2601, to the power of 32
-abbrev pub is_nearest_least : ℕ → ℕ → ℕ → Bool
-is_nearest_least greatest code r =
-    nat_le (((2 * r - 1) * 2601) ^ 32) ((40 * code * code) ^ 32 * 2 ^ greatest) && nat_le ((40 * code * code) ^ 32 * 2 ^ greatest) (((2 * r + 1) * 2601) ^ 32)
+abbrev pub least_units : ℕ
+least_units = 262144 * 13005
+
+-- r is at most 1/2 away from unit * 1000 * 50 * 2 ^ (greatest / 32) * (code / 255) ^ 2 / 100: twice both, times 2601, to the power of 32
+abbrev pub is_nearest_least : ℕ → ℕ → ℕ → ℕ → Bool
+is_nearest_least unit greatest code r =
+    nat_le (((2 * r - 1) * 2601) ^ 32) ((40 * unit * code * code) ^ 32 * 2 ^ greatest) && nat_le ((40 * unit * code * code) ^ 32 * 2 ^ greatest) (((2 * r + 1) * 2601) ^ 32)
+
+-- what is told of it, in the unit that it is told in
+abbrev pub is_told_nearest : ℕ → ℕ → ℕ → Bool
+is_told_nearest unit greatest code = is_nearest_least unit greatest code (nearest (unit * least_number greatest code) least_units)
 
 abbrev pub LeastLuminancesAreNearest : Type 0
-LeastLuminancesAreNearest = list_all (λ greatest. list_all (λ code. is_nearest_least greatest code (least_thousandths greatest code)) (range_with_len 0 256)) (range_with_len 0 256) ≡ true
+LeastLuminancesAreNearest =
+    list_all (λ greatest. list_all (λ code. is_told_nearest (figure_unit (least_number greatest code) least_units) greatest code) (range_with_len 0 256)) (range_with_len 0 256) ≡ true
 
 abbrev pub least_text : ℕ → ℕ → List ℕ
-least_text greatest code = codes ", down to " ++ (thousandths (least_thousandths greatest code) ++ codes " cd/m2")
+least_text greatest code = down_to (least_number greatest code) least_units
 
 abbrev pub least_code : ℕ → List ℕ
 least_code code = text_between (codes ", least luminance by code ") code []

@@ -1,10 +1,10 @@
 //! Luminances of HDR by their codes.
 ghost use Rattle.std.specs.Prelude.{◌≡◌, ◌≤◌, ◌<◌, ◌+◌, ◌*◌, ◌++◌};
 ghost use Rattle.arrayvec.specs.ArrayVec.{array_vec_len};
-ghost use Rattle.meaning_fields.specs.Luminance.{luminance, fine_luminance, least_thousandths, least_text, least_words, least_code};
+ghost use Rattle.meaning_fields.specs.Luminance.{luminance, fine_luminance, least_number, least_text, least_words, least_code};
 
-use edid_base::append;
-use meaning_words::{NOTE, Note, append_between, append_thousandths, nearest};
+use crate::figures::append_down_to;
+use meaning_words::{NOTE, Note, append_between};
 
 /// The luminances of the codes from 0 on, in cd/m2: the whole numbers nearest to 50 * 2 ^ (code / 32) (CTA-861-G,
 /// section 7.5.13).
@@ -312,14 +312,13 @@ fn fine_luminance(code: u8) -> u64
     u64::from(FINE_LUMINANCES[usize::from(code)])
 }
 
-/// The least luminance in thousandths of 1 cd/m2, to the nearest: of the code of the greatest one, and its own.
-pub fn least_thousandths(greatest: u8, code: u8) -> u64
-    ensures { result ≡ least_thousandths greatest code }
+// What is divided by the fine units to give the least luminance in thousandths of 1 cd/m2, of the code of the greatest one, and its
+// own.
+fn least_number(greatest: u8, code: u8) -> u64
+    ensures value { result ≡ least_number greatest code }
+    ensures small { result ≤ 2 * (4294967296 * 65025) }
 {
-    nearest(
-        2 * product(fine_luminance(greatest), squared(code)),
-        FINE_UNITS,
-    )
+    2 * product(fine_luminance(greatest), squared(code))
 }
 
 fn product(luminance: u64, square: u64) -> u64
@@ -336,9 +335,7 @@ fn append_least_of(note: &mut Note, greatest: u8, code: u8)
     ensures items { note.new.items ≡ note.old.items ++ least_text greatest code }
     ensures len { array_vec_len note.new ≤ array_vec_len note.old + 60 }
 {
-    append(note, b", down to ");
-    append_thousandths(note, least_thousandths(greatest, code));
-    append(note, b" cd/m2");
+    append_down_to(note, least_number(greatest, code), FINE_UNITS);
 }
 
 fn append_least_code(note: &mut Note, code: u8)

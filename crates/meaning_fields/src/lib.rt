@@ -4,12 +4,14 @@
 
 mod brightness;
 mod fields;
+mod figures;
 mod laws;
 mod lines;
 mod places;
 
-pub use brightness::{FINE_LUMINANCES, LUMINANCES, append_least, least_thousandths, luminance};
+pub use brightness::{FINE_LUMINANCES, LUMINANCES, append_least, luminance};
 pub use fields::{Choice, Field, FieldSays, append_fields, append_share, append_ten_thousandths};
+pub use figures::append_down_to;
 pub use laws::{least_luminances_are_nearest, luminances_are_nearest};
 pub use lines::append_block;
 pub use places::append_place;

@@ -73,6 +73,7 @@ established 000080 = 1152x870 at 75 Hz
 established a1087f = 720x400 at 70 Hz | 640x480 at 60 Hz | 800x600 at 60 Hz | 1024x768 at 60 Hz | of the maker's own: 7f
 three range 00324b1e5313000a202020202020 = 50 to 75 Hz, 30 to 83 kHz, up to 190 MHz, no formula
 gtf range 00324b1e5313000a202020202020 = 50 to 75 Hz, 30 to 83 kHz, up to 190 MHz, GTF
+four range 00324b1e5313000a202020202020 = 50 to 75 Hz, 30 to 83 kHz, up to 190 MHz, GTF
 three range 0e324b1e5300010a202020202020 = 50 to 75 Hz, 30 to 83 kHz, form 01
 four range 02324b1e5300010a202020202020 = 50 to 330 Hz, 30 to 83 kHz, limits alone
 four range 03324b1e5300010a202020202020 = 305 to 330 Hz, 30 to 83 kHz, limits alone

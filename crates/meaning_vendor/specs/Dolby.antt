@@ -1,8 +1,10 @@
 -- What a vendor-specific video block of Dolby means, of the bytes after its identifier (Dolby Vision; no clause of a public standard,
 -- versions 1 and 2 as open readers of EDIDs have them; of version 0 the version alone, and its bytes).
-use Rattle.std.specs.Prelude.{ℕ, ◌+◌, ◌*◌, ◌/◌, ◌%◌, ◌==◌, ◌&&◌, if◌then◌else◌, List, [], ◌∷◌, ◌++◌, length, drop, slice_index, codes}
-use Rattle.meaning_words.specs.Notes.{below, rest_words}
+use Rattle.std.specs.Prelude.{ℕ, ◌+◌, ◌*◌, ◌/◌, ◌%◌, ◌==◌, ◌&&◌, nat_lt, if◌then◌else◌, List, [], ◌∷◌, ◌++◌, length, drop, slice_index, codes}
+use Rattle.meaning_words.specs.Notes.{below, rest_words, text_between}
+use Rattle.meaning_fields.specs.Figures.{down_to}
 use Rattle.meaning_fields.specs.Fields.{Row, row, word, words, number, hex, share, field_words, block_meanings}
+use Rattle.meaning_vendor.specs.Lights.{peak, floor}
 
 -- ---- version 0
 
@@ -19,8 +21,14 @@ one_rows =
     row 0 1 1 2 (word (codes ", YCbCr 4:2:2 at 12 bits")) ∷
     row 0 1 2 2 (word (codes ", 2160p60")) ∷
     row 1 1 1 2 (word (codes ", global dimming")) ∷
-    row 1 1 2 128 (number (codes ", up to ") 50 100 (codes " cd/m2")) ∷
-    row 2 1 2 128 (number (codes ", down to (") 1 0 (codes "/127)^2 cd/m2")) ∷
+    row 1 1 2 128 (number (codes ", up to ") 50 100 (codes " cd/m2")) ∷ []
+
+-- (code / 127) ^ 2 cd/m2
+abbrev pub square_text : List ℕ → List ℕ
+square_text p = if nat_lt 2 (length p) then down_to (1000 * (slice_index p 2 / 2 * (slice_index p 2 / 2))) 16129 else []
+
+abbrev pub near_rows : List Row
+near_rows =
     row 2 1 1 2 (words [] (codes ", near BT.709" ∷ codes ", near P3-D65" ∷ [])) ∷ []
 
 abbrev pub long_rows : List Row
@@ -51,9 +59,17 @@ two_rows =
     row 0 1 1 2 (word (codes ", YCbCr 4:2:2 at 12 bits")) ∷
     row 0 1 2 2 (word (codes ", backlight control")) ∷
     row 1 1 1 4 (number (codes ", backlight from ") 25 25 (codes " cd/m2 on")) ∷
-    row 1 1 4 2 (word (codes ", global dimming")) ∷
-    row 1 1 8 32 (number (codes ", least PQ code ") 20 0 []) ∷
-    row 2 1 8 32 (number (codes ", greatest PQ code ") 65 2055 []) ∷
+    row 1 1 4 2 (word (codes ", global dimming")) ∷ []
+
+-- luminances by their codes, of five bits each
+abbrev pub peak_text : List ℕ → List ℕ
+peak_text p = if nat_lt 2 (length p) then text_between (codes ", up to ") (peak (slice_index p 2 / 8)) (codes " cd/m2") else []
+
+abbrev pub floor_text : List ℕ → List ℕ
+floor_text p = if nat_lt 1 (length p) then down_to (floor (slice_index p 1 / 8)) 1000000 else []
+
+abbrev pub mode_rows : List Row
+mode_rows =
     row 2 1 1 4 (words [] (codes ", low latency" ∷ codes ", low latency, also over HDMI" ∷ codes ", standard and low latency" ∷ codes ", standard and low latency, also over HDMI" ∷ [])) ∷
     row 2 1 4 2 (hex (codes ", reserved bits ") 4) ∷
     row 3 1 1 2 (word (codes ", 4:4:4 at 12 bits")) ∷
@@ -84,11 +100,17 @@ abbrev pub vision : List ℕ
 vision = codes ", Dolby Vision"
 
 -- the first line, which has no bytes left
+unfoldable pub one_words : List ℕ → List ℕ
+one_words p = vision ++ (field_words one_rows p ++ (square_text p ++ field_words near_rows p))
+
 abbrev pub one_meanings : List ℕ → List (List ℕ)
-one_meanings p = block_meanings vision one_rows 128 p ++ one_more p
+one_meanings p = below (one_words p) ++ one_more p
+
+unfoldable pub two_words : List ℕ → List ℕ
+two_words p = vision ++ (field_words two_rows p ++ (peak_text p ++ (floor_text p ++ field_words mode_rows p)))
 
 abbrev pub two_meanings : List ℕ → List (List ℕ)
-two_meanings p = block_meanings vision two_rows 128 p ++ block_meanings [] point_rows 7 p
+two_meanings p = below (two_words p) ++ block_meanings [] point_rows 7 p
 
 -- by the version, in bits 7 to 5
 abbrev pub dolby_meanings : List ℕ → List (List ℕ)

@@ -1,3 +1,4 @@
+pub mod Lights
 pub mod Dolby
 pub mod Vendors
 pub mod Sync

@@ -1,20 +1,24 @@
 //! What a vendor-specific video block of Dolby means.
-ghost use Rattle.std.specs.Prelude.{◌≡◌, ◌≤◌, ◌<◌, ◌+◌, ◌++◌, length, map, flat_map, IsTrue};
+ghost use Rattle.std.specs.Prelude.{◌≡◌, ◌≤◌, ◌<◌, ◌+◌, ◌*◌, ◌++◌, length, flat_map};
 ghost use Rattle.arrayvec.specs.ArrayVec.{array_vec_len};
-ghost use Rattle.meaning_words.specs.Notes.{own_line};
-ghost use Rattle.meaning_fields.specs.Fields.{are_fields, block_meanings, row_in_code};
-ghost use Rattle.meaning_vendor.specs.Dolby.{dolby_meanings, long_rows, nought_rows, one_meanings, one_more, one_rows, point_rows, red_bits, short_meanings, short_rows, two_meanings, two_rows, vision};
+ghost use Rattle.meaning_words.specs.Notes.{below, own_line};
+ghost use Rattle.meaning_vendor.specs.Dolby.{dolby_meanings, floor_text, long_rows, mode_rows, near_rows, nought_rows, one_meanings, one_more, one_rows, one_words, peak_text, point_rows, red_bits, short_meanings, short_rows, square_text, two_meanings, two_rows, two_words, vision};
 
+use crate::lights::{floor, peak};
 use arrayvec::ArrayVec;
+use edid_base::append;
 use meaning_fields::{
-    Field, FieldSays, append_block, append_fields, append_share, choices, field_rows,
+    Field, FieldSays, append_block, append_down_to, append_fields, append_share, choices,
+    field_rows,
 };
-use meaning_words::{Note, PAGE, Page, after, append_rest, append_words, byte_at};
+use meaning_words::{
+    NOTE, Note, PAGE, Page, after, append_between, append_rest, append_words, byte_at,
+};
 
 /// The name of the block.
 const VISION: &[u8] = b", Dolby Vision";
-/// Past every byte of a block: a line that leaves no bytes.
-const ALL: usize = 128;
+/// The units of which a least luminance of version 2 counts a thousandth of 1 cd/m2.
+const FLOOR_UNITS: u64 = 1_000_000;
 
 const NOUGHT: &[Field] = field_rows! {
     0 1 32 8 FieldSays::Number { before: " version ", times: 1, plus: 0, after: "" };
@@ -27,7 +31,9 @@ const ONE: &[Field] = field_rows! {
     0 1 2 2 FieldSays::Word(", 2160p60");
     1 1 1 2 FieldSays::Word(", global dimming");
     1 1 2 128 FieldSays::Number { before: ", up to ", times: 50, plus: 100, after: " cd/m2" };
-    2 1 2 128 FieldSays::Number { before: ", down to (", times: 1, plus: 0, after: "/127)^2 cd/m2" };
+};
+
+const NEAR: &[Field] = field_rows! {
     2 1 1 2 FieldSays::Words { before: "", texts: choices! { ", near BT.709"; ", near P3-D65"; } };
 };
 
@@ -57,8 +63,9 @@ const TWO: &[Field] = field_rows! {
     0 1 2 2 FieldSays::Word(", backlight control");
     1 1 1 4 FieldSays::Number { before: ", backlight from ", times: 25, plus: 25, after: " cd/m2 on" };
     1 1 4 2 FieldSays::Word(", global dimming");
-    1 1 8 32 FieldSays::Number { before: ", least PQ code ", times: 20, plus: 0, after: "" };
-    2 1 8 32 FieldSays::Number { before: ", greatest PQ code ", times: 65, plus: 2055, after: "" };
+};
+
+const MODES: &[Field] = field_rows! {
     2 1 1 4 FieldSays::Words { before: "", texts: choices! { ", low latency"; ", low latency, also over HDMI"; ", standard and low latency"; ", standard and low latency, also over HDMI"; } };
     2 1 4 2 FieldSays::Hex(", reserved bits ");
     3 1 1 2 FieldSays::Word(", 4:4:4 at 12 bits");
@@ -73,17 +80,6 @@ const POINTS: &[Field] = field_rows! {
     5 1 1 8 FieldSays::Share { before: ", blue ", plus: 32, by: 256 };
     6 1 1 8 FieldSays::Share { before: " ", plus: 8, by: 256 };
 };
-
-fn append_named(page: &mut Page, fields: &[Field], size: usize, payload: &[u8])
-    requires few { length fields.now ≤ 18 }
-    requires fields { IsTrue (are_fields fields.now) }
-    requires few_bytes { length payload.now ≤ 128 }
-    requires room { array_vec_len page.old + 1536 ≤ PAGE }
-    ensures items { page.new.items ≡ page.old.items ++ flat_map own_line (block_meanings vision (map row_in_code fields.now) size payload.now) }
-    ensures len { array_vec_len page.new ≤ array_vec_len page.old + 1400 }
-{
-    append_block(page, VISION, fields, size, payload);
-}
 
 // The y of red in a short block of version 1.
 fn red_bits(payload: &[u8]) -> u64
@@ -118,13 +114,94 @@ fn append_one_more(page: &mut Page, payload: &[u8])
     }
 }
 
+fn squared(code: u8) -> u64
+    ensures value { result ≡ code * code }
+    ensures small { result ≤ 65025 }
+{
+    u64::from(code) * u64::from(code)
+}
+
+// The square of a code's share of 127, in thousandths.
+fn append_square(note: &mut Note, payload: &[u8])
+    requires { array_vec_len note.old + 100 ≤ NOTE }
+    ensures items { note.new.items ≡ note.old.items ++ square_text payload.now }
+    ensures len { array_vec_len note.new ≤ array_vec_len note.old + 60 }
+{
+    if 2 < payload.len() {
+        append_down_to(note, 1000 * squared(byte_at(payload, 2) / 2), 16129);
+    }
+}
+
+#[tactic(auto, unfolding(crate::specs::Dolby::one_words))]
+fn one_note(payload: &[u8]) -> Note
+    ensures value { result.items ≡ one_words payload.now }
+    ensures len { array_vec_len result ≤ 600 }
+{
+    let mut words: Note = ArrayVec::new();
+    append(&mut words, VISION);
+    append_fields(&mut words, ONE, payload);
+    append_square(&mut words, payload);
+    append_fields(&mut words, NEAR, payload);
+    words
+}
+
+fn append_one_words(page: &mut Page, payload: &[u8])
+    requires { array_vec_len page.old + 1536 ≤ PAGE }
+    ensures items { page.new.items ≡ page.old.items ++ flat_map own_line (below (one_words payload.now)) }
+    ensures len { array_vec_len page.new ≤ array_vec_len page.old + 1400 }
+{
+    append_words(page, one_note(payload).as_slice());
+}
+
 fn append_one(page: &mut Page, payload: &[u8])
     requires few { length payload.now ≤ 128 }
     requires room { array_vec_len page.old + 3072 ≤ PAGE }
     ensures { page.new.items ≡ page.old.items ++ flat_map own_line (one_meanings payload.now) }
 {
-    append_named(page, ONE, ALL, payload);
+    append_one_words(page, payload);
     append_one_more(page, payload);
+}
+
+fn append_peak(note: &mut Note, payload: &[u8])
+    requires { array_vec_len note.old + 100 ≤ NOTE }
+    ensures items { note.new.items ≡ note.old.items ++ peak_text payload.now }
+    ensures len { array_vec_len note.new ≤ array_vec_len note.old + 60 }
+{
+    if 2 < payload.len() {
+        append_between(note, b", up to ", peak(byte_at(payload, 2) / 8), b" cd/m2");
+    }
+}
+
+fn append_floor(note: &mut Note, payload: &[u8])
+    requires { array_vec_len note.old + 100 ≤ NOTE }
+    ensures items { note.new.items ≡ note.old.items ++ floor_text payload.now }
+    ensures len { array_vec_len note.new ≤ array_vec_len note.old + 60 }
+{
+    if 1 < payload.len() {
+        append_down_to(note, floor(byte_at(payload, 1) / 8), FLOOR_UNITS);
+    }
+}
+
+#[tactic(auto, unfolding(crate::specs::Dolby::two_words))]
+fn two_note(payload: &[u8]) -> Note
+    ensures value { result.items ≡ two_words payload.now }
+    ensures len { array_vec_len result ≤ 900 }
+{
+    let mut words: Note = ArrayVec::new();
+    append(&mut words, VISION);
+    append_fields(&mut words, TWO, payload);
+    append_peak(&mut words, payload);
+    append_floor(&mut words, payload);
+    append_fields(&mut words, MODES, payload);
+    words
+}
+
+fn append_two_words(page: &mut Page, payload: &[u8])
+    requires { array_vec_len page.old + 1536 ≤ PAGE }
+    ensures items { page.new.items ≡ page.old.items ++ flat_map own_line (below (two_words payload.now)) }
+    ensures len { array_vec_len page.new ≤ array_vec_len page.old + 1400 }
+{
+    append_words(page, two_note(payload).as_slice());
 }
 
 fn append_two(page: &mut Page, payload: &[u8])
@@ -132,7 +209,7 @@ fn append_two(page: &mut Page, payload: &[u8])
     requires room { array_vec_len page.old + 3072 ≤ PAGE }
     ensures { page.new.items ≡ page.old.items ++ flat_map own_line (two_meanings payload.now) }
 {
-    append_named(page, TWO, ALL, payload);
+    append_two_words(page, payload);
     append_block(page, b"", POINTS, 7, payload);
 }
 
@@ -146,6 +223,6 @@ pub fn append_dolby(page: &mut Page, payload: &[u8])
     match byte_at(payload, 0) / 32 {
         1 => append_one(page, payload),
         2 => append_two(page, payload),
-        _ => append_named(page, NOUGHT, 0, payload),
+        _ => append_block(page, VISION, NOUGHT, 0, payload),
     }
 }

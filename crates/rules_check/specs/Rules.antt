@@ -1,15 +1,16 @@
 -- The rules that an EDID is to keep, and when one is broken.
-use Rattle.std.specs.Prelude.{◌==◌, Bool, ◌&&◌, ◌||◌, not, nat_lt, List, [], ◌∷◌, length}
+use Rattle.std.specs.Prelude.{◌==◌, Bool, false, ◌&&◌, ◌||◌, not, nat_lt, List, [], ◌∷◌, length}
 use Rattle.std.specs.List.{list_any}
 use Rattle.edid_base.specs.declared.base.Base.{Base}
 use Rattle.edid_cta.specs.Hdmi.{is_hdmi, blocks_of}
+use Rattle.edid_cta.specs.declared.block.DataBlock.{DataBlock}
 use Rattle.edid_cta.specs.declared.raw.Ext.{Ext}
 use Rattle.rules_values.specs.BaseParts.{is_three, some_tagged, is_empty, begins_with_timing, is_continuous, prefers_first, claims_srgb, is_srgb, is_ill_unused, has_established_vga, names_formula}
 use Rattle.rules_values.specs.BlockParts.{lists_vga, is_video_capability, fixes_rgb_range, has_fast_clock, has_wrong_address, has_root_address, is_speakers, is_ill_speakers, has_multichannel_pcm}
 use Rattle.rules_values.specs.ExtParts.{is_cta, begins_with_map, overscans, has_ill_padding, native_count, hides_sound, some_block, hdmi_count, has_forum_first, timings_of}
 use Rattle.rules_values.specs.VideoCodes.{video_codes, repeats, has_lone_code}
 use Rattle.rules_native.specs.Natives.{has_mixed_natives}
-use Rattle.rules_contents.specs.Extensions.{overruns, has_other_revision, has_unknown_tag, repeats_block, has_fixed_ycc, has_misplaced_override, has_low_override}
+use Rattle.rules_contents.specs.Extensions.{overruns, has_other_revision, has_unknown_tag, repeats_block, has_fixed_ycc, is_override, has_misplaced_override, has_low_override}
 use Rattle.rules_contents.specs.Bases.{is_ill_text, is_reserved_week, is_late_year, has_other_gamma, has_reserved_input}
 use Rattle.rules_contents.specs.Contents.{has_slip}
 use Rattle.rules_contents.specs.declared.contents.Slip.TheVariants as slip
@@ -36,6 +37,16 @@ abbrev pub has_ill_address : Origin → List Ext → Bool
 has_ill_address Display xs = some_block has_wrong_address xs
 has_ill_address Port xs = some_block has_wrong_address xs || some_block has_root_address xs
 
+-- the first of some data blocks is the HDMI Forum's override of the count of extensions (HF-EEODB)
+abbrev pub begins_overriding : List DataBlock → Bool
+begins_overriding [] = false
+begins_overriding (b ∷ bs) = is_override b
+
+-- the first extension begins with it
+abbrev pub begins_with_override : List Ext → Bool
+begins_with_override [] = false
+begins_with_override (x ∷ xs) = begins_overriding (blocks_of x)
+
 -- a base block with these extensions, of this origin, breaks a rule
 abbrev pub is_broken : Origin → Rule → Base → List Ext → Bool
 -- 1.3 asks that the first timing is the preferred one (E-EDID Release A, section 3.6.4)
@@ -57,8 +68,9 @@ is_broken o Srgb b xs = (claims_srgb b && not (is_srgb b.chroma)) || (not (claim
 -- an unused descriptor has the tag 10 (section 3.10.3)
 is_broken o NoEmptyDescriptor b xs = list_any is_empty b.descriptors
 is_broken o UnusedStandard b xs = list_any is_ill_unused b.standard
--- 1.3 asks for a block map before two and more extensions (section 4.1)
-is_broken o BlockMap b xs = is_three b.revision && nat_lt 1 (length xs) && not (begins_with_map xs)
+-- 1.3 asks for a block map before two and more extensions (section 4.1). Where the HDMI Forum's override counts them, block 1 is the CTA
+-- block that begins with it, and no map (HDMI 2.1, section 10.3.7).
+is_broken o BlockMap b xs = is_three b.revision && nat_lt 1 (length xs) && not (begins_with_map xs) && not (begins_with_override xs)
 -- HDMI asks for 1.3 (HDMI 1.4, section 8.3)
 is_broken o HdmiRevision b xs = not (is_three b.revision) && some_block is_hdmi xs
 -- a serial number as a text leaves 0 in the four bytes (own)

@@ -1,27 +1,27 @@
 //! The rules, one by one.
 ghost use Rattle.std.specs.Prelude.{◌≡◌, ◌≤◌, ◌<◌, ◌+◌, ◌*◌, ◌++◌, length};
 ghost use Rattle.arrayvec.specs.ArrayVec.{array_vec_len};
-ghost use Rattle.rules_check.specs.Rules.{has_ill_address, is_broken};
+ghost use Rattle.rules_check.specs.Rules.{begins_overriding, begins_with_override, has_ill_address, is_broken};
 ghost use Rattle.rules_check.specs.TimingRules.{has_zero, has_size, differs, breaks};
 ghost use Rattle.rules_check.specs.Findings.{rule_findings, timing_findings, edid_findings, one_timing_findings, numbered_findings, findings};
 
 use crate::rule::{Finding, Origin, Rule, TimingRule};
 use arrayvec::ArrayVec;
 use edid_base::{Base, Timing};
-use edid_cta::Ext;
+use edid_cta::{DataBlock, Ext};
 use rules_contents::{
     Slip, has_low_override, has_misplaced_override, has_other_gamma, has_reserved_input,
-    is_late_year, is_reserved_week, some_fixed_ycc, some_ill_text, some_other_revision,
-    some_overrun, some_repeated, some_slip, some_unknown,
+    is_late_year, is_override, is_reserved_week, some_fixed_ycc, some_ill_text,
+    some_other_revision, some_overrun, some_repeated, some_slip, some_unknown,
 };
 use rules_native::has_mixed_natives;
 use rules_rates::{
     has_format_outside, has_reversed_limits, is_out_of_range, some_past, some_slow, timing_pace,
 };
 use rules_values::{
-    NAME_TAG, RANGE_TAG, SERIAL_TAG, Sought, begins_with_map, begins_with_timing, claims_srgb,
-    has_established_vga, hdmi_count, is_continuous, is_srgb, is_three, prefers_first, repeats,
-    some_block, some_cta, some_empty, some_formula, some_forum_first, some_hidden_sound,
+    NAME_TAG, RANGE_TAG, SERIAL_TAG, Sought, begins_with_map, begins_with_timing, blocks_of,
+    claims_srgb, has_established_vga, hdmi_count, is_continuous, is_srgb, is_three, prefers_first,
+    repeats, some_block, some_cta, some_empty, some_formula, some_forum_first, some_hidden_sound,
     some_ill_padding, some_ill_unused, some_lone_code, some_native, some_overscan, some_tagged,
     timings_of, video_codes,
 };
@@ -115,6 +115,25 @@ fn has_ill_address(origin: Origin, extensions: &[Ext]) -> bool
         }
 }
 
+fn begins_overriding(blocks: &[DataBlock]) -> bool
+    ensures { result ≡ begins_overriding blocks.now }
+{
+    match blocks {
+        [] => false,
+        [block, ..] => is_override(block),
+    }
+}
+
+/// Whether the first extension begins with the HDMI Forum's override of the count of extensions.
+fn begins_with_override(extensions: &[Ext]) -> bool
+    ensures { result ≡ begins_with_override extensions.now }
+{
+    match extensions {
+        [] => false,
+        [ext, ..] => begins_overriding(blocks_of(ext)),
+    }
+}
+
 /// Whether an EDID of these parts breaks a rule.
 fn is_broken(origin: Origin, rule: Rule, base: &Base, extensions: &[Ext]) -> bool
     requires { length extensions.now ≤ 3 }
@@ -140,7 +159,10 @@ fn is_broken(origin: Origin, rule: Rule, base: &Base, extensions: &[Ext]) -> boo
         Rule::NoEmptyDescriptor => some_empty(base),
         Rule::UnusedStandard => some_ill_unused(base),
         Rule::BlockMap => {
-            is_three(base.revision) && 1 < extensions.len() && !begins_with_map(extensions)
+            is_three(base.revision)
+                && 1 < extensions.len()
+                && !begins_with_map(extensions)
+                && !begins_with_override(extensions)
         }
         Rule::HdmiRevision => !is_three(base.revision) && some_block(Sought::Hdmi, extensions),
         Rule::OneSerial => {

@@ -34,7 +34,9 @@ fn asked_of_base(rule: Rule) -> Option<&'static str> {
         }
         Rule::UnusedStandard => Some("a standard timing that is not used is 01 01 (E-EDID A, 3.9)"),
         Rule::BlockMap => {
-            Some("in 1.3 a block map comes before two and more extensions (E-EDID A, 4.1)")
+            Some(
+                "in 1.3 a block map comes before two and more extensions (E-EDID A, 4.1), but where the first one begins with the HDMI Forum's override of their count (HDMI 2.1, 10.3.7)",
+            )
         }
         Rule::OneSerial => {
             Some("where a descriptor has the serial number as a text, the four bytes of it are 0")

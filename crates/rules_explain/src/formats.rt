@@ -2,10 +2,14 @@
 ghost use Rattle.std.specs.Prelude.{◌≤◌, length};
 
 use crate::blocks::bytes_reported;
+use crate::limits::{pace_reported, standard_reported};
 use edid_base::Base;
 use edid_cta::Ext;
 use rules_contents::fixes_ycc_range;
-use rules_rates::{has_past, has_slow, is_code_outside, is_standard_outside};
+use rules_rates::{
+    ESTABLISHED, established_bits, has_past, has_slow, is_established_outside, is_out_of_range,
+    is_standard_outside, pace_of,
+};
 use rules_values::{blocks_of, video_codes};
 use std::alloc::{AllocError, Global};
 
@@ -52,19 +56,50 @@ pub fn range_reported(alloc: Global, extensions: &[Ext]) -> Result<Option<String
     Ok(None)
 }
 
-/// The first standard timing outside the range limits, from 1.
-fn standard_reported(alloc: Global, base: &Base) -> Result<Option<String>, AllocError> {
+/// The first standard timing outside the range limits, from 1, with what of it is outside.
+fn first_standard(alloc: Global, base: &Base) -> Result<Option<String>, AllocError> {
     let mut number = 0_u8;
     for standard in &base.standard {
         number = number.saturating_add(1);
-        if is_standard_outside(base, *standard) {
-            return Ok(Some(format!(in alloc; "standard timing {number}")?));
+        if let Some(timing) = *standard {
+            if is_standard_outside(base, Some(timing)) {
+                let beyond = standard_reported(alloc, base, timing)?;
+                return Ok(Some(format!(in alloc; "standard timing {number}, {beyond}")?));
+            }
         }
     }
     Ok(None)
 }
 
-/// The first video code outside the range limits, or the first standard timing, or that it is an established timing.
+/// The first established timing outside the range limits, with what of it is outside.
+fn first_established(alloc: Global, base: &Base) -> Result<Option<String>, AllocError> {
+    let bits = established_bits(&base.established);
+    for row in ESTABLISHED {
+        if is_established_outside(base, bits, *row) {
+            let beyond = pace_reported(alloc, base, row.pace)?;
+            return Ok(Some(format!(in alloc; "an established timing, {beyond}")?));
+        }
+    }
+    Ok(None)
+}
+
+/// The first video code outside the range limits, with what of it is outside.
+fn first_code(alloc: Global, base: &Base, extensions: &[Ext]) -> Result<Option<String>, AllocError>
+    requires { length extensions.now ≤ 3 }
+{
+    let codes = video_codes(extensions);
+    for code in codes.as_slice() {
+        if let Some(pace) = pace_of(*code) {
+            if is_out_of_range(base, pace) {
+                let beyond = pace_reported(alloc, base, pace)?;
+                return Ok(Some(format!(in alloc; "video code {code}, {beyond}")?));
+            }
+        }
+    }
+    Ok(None)
+}
+
+/// The first video code outside the range limits, or the first standard or established timing, with the limit, its rate and by how much.
 pub fn format_reported(
     alloc: Global,
     base: &Base,
@@ -72,14 +107,11 @@ pub fn format_reported(
 ) -> Result<Option<String>, AllocError>
     requires { length extensions.now ≤ 3 }
 {
-    let codes = video_codes(extensions);
-    for code in codes.as_slice() {
-        if is_code_outside(base, *code) {
-            return Ok(Some(format!(in alloc; "video code {code}")?));
-        }
+    if let Some(text) = first_code(alloc, base, extensions)? {
+        return Ok(Some(text));
     }
-    match standard_reported(alloc, base)? {
-        None => Ok(Some(String::from_str(alloc, "an established timing")?)),
+    match first_standard(alloc, base)? {
+        None => first_established(alloc, base),
         Some(text) => Ok(Some(text)),
     }
 }

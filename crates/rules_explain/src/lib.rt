@@ -8,6 +8,7 @@ mod blocks;
 mod explanation;
 mod formats;
 mod hints;
+mod limits;
 mod places;
 mod values;
 

@@ -6,6 +6,7 @@ use crate::blocks::{
     slip_reported,
 };
 use crate::formats::{format_reported, map_reported, range_reported, slow_reported};
+use crate::limits::pace_reported;
 use crate::places::{
     capability_reported, empty_reported, ill_text_reported, padding_reported, speakers_reported,
     tmds_reported, unused_reported,
@@ -14,15 +15,13 @@ use edid_base::{Base, Descriptor, Timing};
 use edid_cta::{Ext, hdmi_address};
 use rules_check::{Finding, Rule, TimingRule};
 use rules_native::{Picture, differs, native_pictures};
-use rules_rates::{field_span, line_span};
+use rules_rates::{field_span, line_span, timing_pace};
 use rules_values::{hdmi_count, native_count, timings_of, video_codes};
 use std::alloc::{AllocError, Global};
 use text_core::Phys;
 
 /// The clock's units, 10 kHz, that are a MHz.
 const UNITS_A_MHZ: u16 = 100;
-/// Flags from here on say that a picture is two fields.
-const INTERLACED: u8 = 128;
 
 /// The physical address in the first HDMI block.
 fn address_of(extensions: &[Ext]) -> Option<Phys> {
@@ -263,30 +262,6 @@ fn size_reported(alloc: Global, base: &Base, timing: &Timing) -> Result<String, 
     format!(in alloc; "image {width} x {height} mm, display {across} x {up} cm")
 }
 
-/// The whole part of a quotient, and its thousandths, to the nearest one.
-fn parts_of(count: u64, per: u64) -> (u64, u64) {
-    if per == 0 {
-        return (0, 0);
-    }
-    let thousandths = count.saturating_mul(1000).saturating_add(per / 2) / per;
-    (thousandths / 1000, thousandths % 1000)
-}
-
-fn rates_reported(alloc: Global, timing: &Timing) -> Result<String, AllocError> {
-    let pixels = u64::from(timing.horizontal_active) + u64::from(timing.horizontal_blanking);
-    let lines = u64::from(timing.vertical_active) + u64::from(timing.vertical_blanking);
-    let half_lines = if timing.flags < INTERLACED {
-        2 * lines
-    } else {
-        2 * lines + 1
-    };
-    let clock = u64::from(timing.clock);
-    let (hertz, part) = parts_of(clock * 20_000, pixels.saturating_mul(half_lines));
-    let (kilohertz, more) = parts_of(clock * 10, pixels);
-    let megahertz = clock_text(alloc, timing)?;
-    format!(in alloc; "{hertz}.{part:03} Hz, {kilohertz}.{more:03} kHz, {megahertz}")
-}
-
 /// The values by which a timing breaks a rule.
 fn reported_of_timing(
     alloc: Global,
@@ -315,7 +290,7 @@ fn reported_of_timing(
             alloc, base, timing,
         )?)),
         TimingRule::WithinLimits | TimingRule::NearLimits => {
-            Ok(Some(rates_reported(alloc, timing)?))
+            Ok(Some(pace_reported(alloc, base, timing_pace(timing))?))
         }
     }
 }

@@ -1,6 +1,6 @@
 -- The formats of an EDID beside its detailed timings: video codes (CTA-861-G, section 7.5.1), established timings (E-EDID Release A,
 -- section 3.8) and standard timings (section 3.9); and whether one is outside the range limits (section 3.10.3.3).
-use Rattle.std.specs.Prelude.{ℕ, ◌+◌, ◌*◌, ◌/◌, ◌%◌, ◌==◌, Bool, false, ◌&&◌, ◌||◌, nat_lt, nat_le, if◌then◌else◌, List, [], ◌∷◌, slice_index, Option, Some, None}
+use Rattle.std.specs.Prelude.{ℕ, ◌+◌, ◌*◌, ◌/◌, ◌%◌, ◌==◌, Bool, false, ◌&&◌, ◌||◌, nat_lt, if◌then◌else◌, List, [], ◌∷◌, slice_index, Option, Some, None}
 use Rattle.std.specs.List.{list_any}
 use Rattle.edid_base.specs.declared.base.Base.{Base}
 use Rattle.edid_base.specs.declared.base.Revision.{Revision}
@@ -9,9 +9,10 @@ use Rattle.edid_base.specs.declared.descriptor.Descriptor.TheVariants.{Range}
 use Rattle.edid_base.specs.declared.standard.StandardTiming.{StandardTiming}
 use Rattle.edid_cta.specs.declared.raw.Ext.{Ext}
 use Rattle.rules_values.specs.VideoCodes.{video_codes}
-use Rattle.rules_rates.specs.Limits.{field_span, line_span, limits_rates, is_outside, is_out_of_range}
+use Rattle.rules_rates.specs.Limits.{field_span, line_span, limits_rates, is_over, is_outside, is_out_of_range}
 use Rattle.rules_rates.specs.Paces.{pace_of}
 use Rattle.rules_rates.specs.declared.pace.Pace.{Pace}
+use Rattle.rules_rates.specs.declared.span.RateSpan.{RateSpan}
 use Rattle.rules_rates.specs.declared.formats.BitPace.{BitPace}
 
 -- ---- video codes
@@ -72,11 +73,17 @@ standard_height s =
     else if s.aspect == 2 then s.width * 4 / 5
     else s.width * 9 / 16
 
--- its rate is outside, or the lines of its pictures alone are more than the greatest line rate
+-- the lines of its pictures in a second
+abbrev pub picture_lines : StandardTiming → ℕ
+picture_lines s = standard_height s * s.rate
+
+-- they alone are more than the greatest line rate, in thousands
+abbrev pub has_too_many_lines : RateSpan → StandardTiming → Bool
+has_too_many_lines span s = limits_rates span && is_over span (picture_lines s) 1000
+
+-- its rate is outside, or its pictures have too many lines
 abbrev pub excludes_standard : Revision → StandardTiming → Descriptor → Bool
-excludes_standard r s (Range l) =
-    is_outside (field_span r l.bytes) s.rate 1 ||
-    (limits_rates (line_span r l.bytes) && nat_le (((line_span r l.bytes).greatest + 1) * 1000) (standard_height s * s.rate))
+excludes_standard r s (Range l) = is_outside (field_span r l.bytes) s.rate 1 || has_too_many_lines (line_span r l.bytes) s
 excludes_standard r s _ = false
 
 -- one of at most 256 pixels stands for none

@@ -30,18 +30,23 @@ is_reversed span = nat_lt span.greatest span.least
 abbrev pub limits_rates : RateSpan → Bool
 limits_rates span = nat_lt 0 span.greatest && not (is_reversed span)
 
--- A rate of `count / per` is one unit and more below the least or above the greatest. It is no rate where `per` is 0.
+-- a rate of `count / per` is one unit and more above the greatest, where there is one
+abbrev pub is_over : RateSpan → ℕ → ℕ → Bool
+is_over span count per = not span.is_open && nat_le ((span.greatest + 1) * per) count
+
+-- It is one unit and more below the least or above the greatest. It is no rate where `per` is 0.
 abbrev pub is_outside : RateSpan → ℕ → ℕ → Bool
-is_outside span count per =
-    limits_rates span && nat_lt 0 per && (nat_le (count + per) (span.least * per) || nat_le ((span.greatest + 1) * per) count)
+is_outside span count per = limits_rates span && nat_lt 0 per && (nat_le (count + per) (span.least * per) || is_over span count per)
 
 -- ---- limits
 
--- in 1.4 two bits of byte 4 add 255 to the greatest rate, or to both (E-EDID 1.4, section 3.10.3.3)
+-- In 1.3 a rate is a byte, and 255 the greatest that one says: a display that shows more has no other, so it limits nothing, as of the
+-- clock (own; E-EDID Release A, section 3.10.3.3). In 1.4 two bits of byte 4 add 255 to the greatest rate, or to both (E-EDID 1.4, section
+-- 3.10.3.3).
 abbrev pub raised_span : Revision → ℕ → ℕ → ℕ → RateSpan
-raised_span Three bits least greatest = record { least = least; greatest = greatest }
+raised_span Three bits least greatest = record { least = least; greatest = greatest; is_open = greatest == 255 }
 raised_span Four bits least greatest =
-    record { least = if bits == 3 then least + 255 else least; greatest = if nat_le 2 bits then greatest + 255 else greatest }
+    record { least = if bits == 3 then least + 255 else least; greatest = if nat_le 2 bits then greatest + 255 else greatest; is_open = false }
 
 -- in fields a second
 abbrev pub field_span : Revision → List ℕ → RateSpan

@@ -1,11 +1,12 @@
 //! The formats of an EDID beside its detailed timings, and whether one is outside the range limits.
 ghost use Rattle.std.specs.Prelude.{◌≡◌, ◌≤◌, ◌<◌, length};
 ghost use Rattle.std.specs.List.{list_any};
-ghost use Rattle.rules_rates.specs.Formats.{is_known_outside, is_code_outside, established_paces, established_bits, is_established_outside, some_bit_outside, some_established_outside, standard_height, excludes_standard, is_standard_outside, has_format_outside};
+ghost use Rattle.rules_rates.specs.Formats.{is_known_outside, is_code_outside, established_paces, established_bits, is_established_outside, some_bit_outside, some_established_outside, standard_height, picture_lines, has_too_many_lines, excludes_standard, is_standard_outside, has_format_outside};
 
-use crate::limits::{field_span, is_out_of_range, is_outside, limits_rates, line_span};
+use crate::limits::{field_span, is_out_of_range, is_outside, is_over, limits_rates, line_span};
 use crate::pace::Pace;
 use crate::paces::pace_of;
+use crate::span::RateSpan;
 use edid_base::{Base, Descriptor, Revision, StandardTiming};
 use edid_cta::Ext;
 use rules_values::video_codes;
@@ -13,7 +14,7 @@ use rules_values::video_codes;
 /// A standard timing of this width and less stands for none.
 const UNUSED_WIDTH: u16 = 256;
 /// The lines of a kHz.
-const LINES: u64 = 1000;
+pub const LINES: u64 = 1000;
 
 /// The pace of an established timing.
 #[derive(Clone, Copy, Debug, PartialEq, Eq)]
@@ -36,8 +37,8 @@ macro_rules! paces {
     };
 }
 
-// Bit, clock in kHz, pixels of a line and half lines of a field.
-const ESTABLISHED: &[BitPace] = paces! {
+/// The established timings: bit, clock in kHz, pixels of a line and half lines of a field.
+pub const ESTABLISHED: &[BitPace] = paces! {
     8388608 28320 900 898;
     4194304 35500 900 898;
     2097152 25175 800 1050;
@@ -79,13 +80,15 @@ fn some_code_outside(base: &Base, codes: &[u8]) -> bool
     codes.iter().any(|code| is_code_outside(base, *code))
 }
 
-fn established_bits(bytes: &[u8; 3]) -> u32
+/// The bits of the three bytes of established timings, the highest first.
+pub fn established_bits(bytes: &[u8; 3]) -> u32
     ensures { result ≡ established_bits bytes.now }
 {
     u32::from(bytes[0]) * 65536 + u32::from(bytes[1]) * 256 + u32::from(bytes[2])
 }
 
-fn is_established_outside(base: &Base, bits: u32, row: BitPace) -> bool
+/// Whether the established timing of a row is there and outside the range limits.
+pub fn is_established_outside(base: &Base, bits: u32, row: BitPace) -> bool
     ensures { result ≡ is_established_outside base.now bits row }
 {
     0 < row.bit && bits / row.bit % 2 == 1 && is_out_of_range(base, row.pace)
@@ -123,17 +126,29 @@ fn standard_height(timing: StandardTiming) -> u16
     }
 }
 
+/// How many lines the pictures of a standard timing have in a second, blanking apart.
+pub fn picture_lines(timing: StandardTiming) -> u64
+    ensures { result ≡ picture_lines timing }
+{
+    u64::from(standard_height(timing)) * u64::from(timing.rate)
+}
+
+/// Whether the lines of the pictures of a standard timing alone are more than the greatest line rate.
+pub fn has_too_many_lines(span: RateSpan, timing: StandardTiming) -> bool
+    requires { span.greatest < 512 }
+    ensures { result ≡ has_too_many_lines span timing }
+{
+    limits_rates(span) && is_over(span, picture_lines(timing), LINES)
+}
+
 /// Whether a descriptor has limits that a standard timing is outside of.
 fn excludes_standard(revision: Revision, timing: StandardTiming, descriptor: &Descriptor) -> bool
     ensures { result ≡ excludes_standard revision timing descriptor.now }
 {
     match descriptor {
         Descriptor::Range(limits) => {
-            let lines = line_span(revision, limits);
             is_outside(field_span(revision, limits), u64::from(timing.rate), 1)
-                || limits_rates(lines)
-                    && (lines.greatest + 1) * LINES
-                        <= u64::from(standard_height(timing)) * u64::from(timing.rate)
+                || has_too_many_lines(line_span(revision, limits), timing)
         }
         _ => false,
     }

@@ -8,8 +8,14 @@ mod pace;
 mod paces;
 mod span;
 
-pub use formats::{BitPace, has_format_outside, is_code_outside, is_standard_outside};
-pub use limits::{field_span, has_reversed_limits, is_out_of_range, line_span, timing_pace};
+pub use formats::{
+    BitPace, ESTABLISHED, LINES, established_bits, has_format_outside, has_too_many_lines,
+    is_code_outside, is_established_outside, is_standard_outside, picture_lines,
+};
+pub use limits::{
+    CLOCK_UNIT, HALF_LINE_CLOCK, field_span, has_reversed_limits, is_clock_above, is_out_of_range,
+    is_outside, is_over, line_span, timing_pace,
+};
 pub use maps::{has_past, has_slow, is_slow, some_past, some_slow};
 pub use pace::Pace;
 pub use paces::{CodePace, pace_of};

@@ -1,19 +1,19 @@
 //! How fast a format is, and the limits that a display has for that.
 ghost use Rattle.std.specs.Prelude.{◌≡◌, ◌<◌, ◌^◌};
-ghost use Rattle.rules_rates.specs.Limits.{timing_pace, is_reversed, limits_rates, is_outside, raised_span, field_span, line_span, has_reversed, has_reversed_limits, is_field_rate_outside, is_line_rate_outside, is_clock_above, excludes, is_out_of_range};
+ghost use Rattle.rules_rates.specs.Limits.{timing_pace, is_reversed, limits_rates, is_over, is_outside, raised_span, field_span, line_span, has_reversed, has_reversed_limits, is_field_rate_outside, is_line_rate_outside, is_clock_above, excludes, is_out_of_range};
 
 use crate::pace::Pace;
 use crate::span::RateSpan;
 use edid_base::{Base, Descriptor, RangeLimits, Revision, Timing};
 
-/// What bits of 1.4 add to a rate.
+/// The greatest byte, which in 1.3 limits nothing, and what bits of 1.4 add to a rate.
 const OFFSET: u64 = 255;
 /// The half lines of a second's fields to the clock's units: 1,000 pixels, twice.
-const HALF_LINE_CLOCK: u64 = 2000;
+pub const HALF_LINE_CLOCK: u64 = 2000;
 /// The unit of a detailed timing's clock in kHz.
 const TIMING_CLOCK: u32 = 10;
 /// The unit of the greatest clock in kHz.
-const CLOCK_UNIT: u32 = 10_000;
+pub const CLOCK_UNIT: u32 = 10_000;
 /// Flags from here on say that a picture is two fields.
 const INTERLACED: u8 = 128;
 
@@ -47,6 +47,15 @@ pub fn limits_rates(span: RateSpan) -> bool
     0 < span.greatest && !is_reversed(span)
 }
 
+/// Whether a rate of `count` by `per` is one unit and more above a span.
+pub fn is_over(span: RateSpan, count: u64, per: u64) -> bool
+    requires greatest { span.greatest < 512 }
+    requires per_fits { per < 2 ^ 32 }
+    ensures { result ≡ is_over span count per }
+{
+    !span.is_open && (span.greatest + 1) * per <= count
+}
+
 /// Whether a rate of `count` by `per` is one unit and more outside a span.
 pub fn is_outside(span: RateSpan, count: u64, per: u64) -> bool
     requires least { span.least < 512 }
@@ -55,12 +64,10 @@ pub fn is_outside(span: RateSpan, count: u64, per: u64) -> bool
     requires per_fits { per < 2 ^ 32 }
     ensures { result ≡ is_outside span count per }
 {
-    limits_rates(span)
-        && 0 < per
-        && (count + per <= span.least * per || (span.greatest + 1) * per <= count)
+    limits_rates(span) && 0 < per && (count + per <= span.least * per || is_over(span, count, per))
 }
 
-/// The span of two bytes, which two bits raise in 1.4.
+/// The span of two bytes, which two bits raise in 1.4; in 1.3 the greatest byte limits nothing.
 fn raised_span(revision: Revision, bits: u8, least: u8, greatest: u8) -> RateSpan
     ensures value { result ≡ raised_span revision bits least greatest }
     ensures least { result.least < 512 }
@@ -68,7 +75,11 @@ fn raised_span(revision: Revision, bits: u8, least: u8, greatest: u8) -> RateSpa
 {
     let (least, greatest) = (u64::from(least), u64::from(greatest));
     match revision {
-        Revision::Three => RateSpan { least, greatest },
+        Revision::Three => RateSpan {
+            least,
+            greatest,
+            is_open: greatest == OFFSET,
+        },
         Revision::Four => RateSpan {
             least: if bits == 3 { least + OFFSET } else { least },
             greatest: if 2 <= bits {
@@ -76,6 +87,7 @@ fn raised_span(revision: Revision, bits: u8, least: u8, greatest: u8) -> RateSpa
             } else {
                 greatest
             },
+            is_open: false,
         },
     }
 }
@@ -141,7 +153,7 @@ fn is_line_rate_outside(revision: Revision, limits: &RangeLimits, pace: Pace) ->
 }
 
 /// Whether a clock is a unit and more above the greatest, where there is one.
-fn is_clock_above(most: u8, pace: Pace) -> bool
+pub fn is_clock_above(most: u8, pace: Pace) -> bool
     ensures { result ≡ is_clock_above most pace }
 {
     0 < most && most < 255 && (u32::from(most) + 1) * CLOCK_UNIT <= pace.clock

@@ -5,4 +5,6 @@
 pub struct RateSpan {
     pub least: u64,
     pub greatest: u64,
+    /// Whether no rate is above the greatest: it is as much as there is room for.
+    pub is_open: bool,
 }

@@ -41,6 +41,11 @@ tv 115=20 => none
 tv 115=21 => fail out-of-range;
 tv 115=2d => fail out-of-range;
 tv 115=2e => fail out-of-range;fail timing 2 out-of-range;
+tv 114=78 116=ff 117=ff 136=76 => none
+tv 114=78 116=fe 117=ff 136=76 => fail out-of-range;
+tv 19=04 146=04 118=01 114=78 116=ff 117=ff 136=76 => warn out-of-range;
+tv 54=383180a020e02d10 131=f0 114=ff 116=ff 117=ff => none
+tv 54=383180a020e02d10 131=f0 114=fe 116=ff 117=ff => fail timing 1 out-of-range;
 tv 19=04 146=04 118=01 114=3b => warn out-of-range;warn timing 1 out-of-range;warn timing 2 out-of-range;
 tv 19=04 146=04 118=01 112=02 114=00 => none
 tv 112=02 114=00 => fail limits-reversed;
