@@ -144,7 +144,9 @@ The script says what happens, in the order of its times, and when the run ends:
   at T release NAME KEY
   at T send NAME FRAME          a frame as `hdminet asm` takes it; @NAME in its header, as @p1>@tv, is the
                                 address that this device holds then
-  at T hold NAME ADDRS          of a device from outside: ADDRS is -, or one or two logical addresses
+  at T send NAME hex HEX        the same, as `hdminet dis` takes it
+  at T send NAME attempts N ..  the same, with N attempts in all, 1 to 6; those that are lost count too
+  at T hold NAME ADDRS          of a device from outside: ADDRS is -, or one to four logical addresses
                                 of 0 to e, as 4 or 1+4
   at T drop NAME                of a device from outside: it drops what it has to send
   pulse T WIDTH                 the line is pulled low from outside: 1 to 10000 microseconds, each
@@ -415,10 +417,12 @@ one is read. For each it writes what of the trace is certain by then, and one li
   a line of a script      as of `hdminet run`, for the horizon or later; the horizon is 0 at first
   run to T                sets the horizon to T microseconds: what is over before T is written
   wait                    sets it to where one more event or round is over, if nothing else comes
+  wait T                  the same, at most to T
   show NAME               the answer is the state line of a device
   edge T                  sets it to the microsecond after the line's next edge, which is reported,
                           or to where an event or a round before it is over; at most to T
   edges on, edges off     from now on edges are reported with every line, or not
+  seats on, seats off     from now on notes of devices from outside are reported, or not
   end T                   the rest of the trace; then the session is over
 Answers:
   = H                     the line is taken; the horizon
@@ -428,10 +432,15 @@ Answers:
                           it is for an instant before the horizon. It changes nothing
 With --json each of these lines is an object, as of `hdminet run --json`, in which it stands as
 `line`: `= H` is a `horizon` with `at` and `idle`, `= state ..` a `state`, `! N CAUSE` a `refusal`
-with `script_line` and `cause`, `~ T L` an `edge` with `at` and `level`.
+with `script_line` and `cause`, `~ T L` an `edge` with `at` and `level`,
+`* sent ..` a `sent` with `script_line`, `fate` and `attempts`, `* moved ..` a `moved` with `device`
+and `physical_address`.
 With --explain a refused line is shown on standard error after its answer, with what would be right.
 An edge is a line `~ T 0` or `~ T 1`, the level that the line then has, above its round's line.
-Without the answers and the edges, what is written is the trace that `hdminet run` writes of the
+A note `* sent N ack` is of a frame that line N handed in, and has `ack`, `nack`, `lost` or `broken`,
+and the attempts. `* moved NAME ADDRESS` is of a device from outside that came, or left (`-`). Each
+is below the line of its round or event.
+Without the answers, the edges and the notes, what is written is the trace that `hdminet run` writes of the
 lines taken.
 At most 16384 pulses and pulls wait at a time, and a pulse comes while fewer than 4096 wait: one that
 a round has taken counts no more once that is told.
@@ -491,6 +500,7 @@ pub const MON_FLAGS: &[(&str, &str)] = &[
         "json",
         "Prints each line as an object of JSON: readings, and with --audit remarks",
     ),
+    ("edges", "Prints the line itself, as an edge file"),
     (
         "follow",
         "With --from edges, pin or csv, prints each reading as soon as the lines so far say that it is over",
@@ -520,8 +530,8 @@ pub const MON_VALUES: &[(&str, &str, &str)] = &[
 pub const MON_RULES: &str = "
   --signal goes with vcd and csv alone; of --from-start and --from-idle one is given at most, and neither
   with --audit and --timing; --strict goes with one of these two
-  --follow goes with --from edges, pin or csv, and else with --signal, --margin, --from-start, --audit and
-  --timing alone
+  --follow goes with --from edges, pin or csv, and not with --invert, --glitch, --fold and --from-idle
+  --edges goes with --from, --signal, --invert and --glitch alone
 ";
 
 pub const MON_HELP: &str = "\
@@ -563,6 +573,8 @@ standard's. With --invert a level that is captured as low is high, and the other
 a pin file has lost are named on standard error, and so is what may have to be asked for otherwise:
 another wire, --glitch, --margin or --invert; of an edge file that is read with no flag with --explain
 alone.
+
+With --edges the output is the line itself, as an edge file.
 
 With --audit indented lines below each reading say what the standard would have otherwise, and at the end
 stands a summary; with --timing the widths of each reading's parts too:

@@ -47,7 +47,7 @@ abbrev pub no_check_flags : CheckFlags
 no_check_flags = record { plain = false; trace = false; json = false; progress = false; capture = false; form = None; named = false; glitch = None; explains = false; waits = None }
 
 abbrev pub no_mon_flags : MonFlags
-no_mon_flags = record { form = None; named = false; glitch = None; margin = None; inverted = false; start = None; audit = false; timing = false; strict = false; folded = false; json = false; follows = false; explains = false; waits = None }
+no_mon_flags = record { form = None; named = false; glitch = None; margin = None; inverted = false; start = None; audit = false; timing = false; strict = false; folded = false; json = false; edges = false; follows = false; explains = false; waits = None }
 
 abbrev pub no_edid_flags : EdidFlags
 no_edid_flags = record { source = None; nth = None; reading = None; wanted = None; json = false; address = None; port = None; amplified = false; spoken = false; merges = false; rows = None; explains = false; waits = None }

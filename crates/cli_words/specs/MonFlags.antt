@@ -8,7 +8,7 @@ use Rattle.cli_words.specs.Joined.{joined}
 use Rattle.cli_words.specs.Micros.{micros_of}
 use Rattle.cli_words.specs.declared.choice.Asked.{Asked}
 use Rattle.cli_words.specs.declared.choice.CommandChoice.{CommandChoice}
-use Rattle.cli_words.specs.declared.choice.CommandChoice.TheVariants.{Mon, Follow}
+use Rattle.cli_words.specs.declared.choice.CommandChoice.TheVariants.{Mon, Follow, CapturedLine}
 use Rattle.capture_forms.specs.declared.form.CaptureForm.{CaptureForm}
 use Rattle.capture_forms.specs.declared.form.CaptureForm.TheVariants.{Edges, Vcd, Pin, Csv}
 use Rattle.follow_core.specs.declared.lines.LineForm.{LineForm}
@@ -60,6 +60,7 @@ with_mon_flag flags word =
     else if bytes_eq word (codes "--strict") && not flags.strict then Some (record flags { strict = true })
     else if bytes_eq word (codes "--fold") && not flags.folded then Some (record flags { folded = true })
     else if bytes_eq word (codes "--json") && not flags.json then Some (record flags { json = true })
+    else if bytes_eq word (codes "--edges") && not flags.edges then Some (record flags { edges = true })
     else if bytes_eq word (codes "--follow") && not flags.follows then Some (record flags { follows = true })
     else if bytes_eq word (codes "--explain") && not flags.explains then Some (record flags { explains = true })
     else None
@@ -105,24 +106,33 @@ line_form (Some Pin) = Some line_forms.Pin
 line_form (Some Csv) = Some line_forms.Csv
 line_form form = None
 
-abbrev pub is_from_idle : Option CaptureReport → Bool
-is_from_idle (Some FromIdle) = true
-is_from_idle start = false
-
--- something else than what is read of the edges as they are, from the first on
+-- something else than what is read of the edges as they are, a line each
 abbrev pub goes_further : MonFlags → Bool
-goes_further flags = is_some flags.glitch || flags.inverted || is_from_idle flags.start || flags.strict || flags.folded || flags.json
+goes_further flags = is_some flags.glitch || flags.inverted || flags.folded
 
--- what is written of a capture as it comes; an audit is of the whole capture
-abbrev pub follow_report : Option CaptureReport → Bool → Bool → Option FollowReport
-follow_report start false timing = Some follow_reports.Readings
-follow_report None true timing = Some (follow_reports.Audit timing)
-follow_report (Some start) true timing = None
+-- what is written of a capture as it comes: its readings where no flag says it
+abbrev pub follow_report : Option CaptureReport → Option FollowReport
+follow_report None = Some follow_reports.Readings
+follow_report (Some Readings) = Some follow_reports.Readings
+follow_report (Some FromIdle) = None
+follow_report (Some (Audit timing strict)) = Some (follow_reports.Audit timing strict)
+
+-- how it is followed, and what is reported of it
+abbrev pub followed_as : MonFlags → LineForm → FollowReport → CommandChoice
+followed_as flags form report = Follow (record { form = form; margin = unwrap_or flags.margin 0; report = report; written = form_by flags.json })
 
 abbrev pub follow_choice : MonFlags → Option CommandChoice
 follow_choice flags =
     if goes_further flags then None
-    else option_and_then (λ form. option_map (λ report. Follow form (unwrap_or flags.margin 0) report) (follow_report flags.start (flags.audit || flags.timing) flags.timing)) (line_form flags.form)
+    else option_and_then (λ form. option_and_then (λ report. option_map (followed_as flags form) (follow_report report)) (mon_report flags.start (flags.audit || flags.timing) flags.timing flags.strict)) (line_form flags.form)
+
+-- something of readings, or of them as they come
+abbrev pub asks_of_readings : MonFlags → Bool
+asks_of_readings flags = is_some flags.margin || is_some flags.start || flags.audit || flags.timing || flags.strict || flags.folded || flags.json || flags.follows
+
+-- the line itself, of which nothing is read
+abbrev pub line_choice : MonFlags → Option CommandChoice
+line_choice flags = if asks_of_readings flags then None else Some (CapturedLine flags.form flags.inverted (unwrap_or flags.glitch 0))
 
 -- a value is missing, or a wire has no name
 abbrev pub is_misfit : MonFlags → Bool
@@ -132,6 +142,7 @@ is_misfit flags = is_some flags.waits || (flags.named && not (has_names flags.fo
 abbrev pub mon_asked : MonFlags → Option Asked
 mon_asked flags =
     if is_misfit flags then None
+    else if flags.edges then option_map (λ choice. record { choice = choice; explains = flags.explains }) (line_choice flags)
     else if flags.follows then option_map (λ choice. record { choice = choice; explains = flags.explains }) (follow_choice flags)
     else option_map (λ report. record {
       choice = Mon (record {

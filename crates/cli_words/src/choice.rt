@@ -23,8 +23,13 @@ pub enum Listing {
 pub enum FollowReport {
     /// Its readings.
     Readings,
-    /// Its audit, with the widths of each reading or without.
-    Audit { timing: bool },
+    /// Its audit.
+    Audit {
+        /// With the widths of the parts of each reading.
+        timing: bool,
+        /// A remark is a fault.
+        strict: bool,
+    },
 }
 
 /// What is written of a capture.
@@ -174,6 +179,17 @@ pub struct MonChoice {
     pub written: Form,
 }
 
+/// How a capture is followed, and what is reported of it as its lines come.
+#[derive(Clone, Copy, Debug)]
+pub struct FollowChoice {
+    pub form: LineForm,
+    /// The windows are so many microseconds wider, 300 at most.
+    pub margin: u64,
+    pub report: FollowReport,
+    /// Whether its lines are written, or their objects.
+    pub written: Form,
+}
+
 /// What the words of a command line ask for.
 #[derive(Clone, Copy, Debug)]
 pub enum CommandChoice {
@@ -212,11 +228,14 @@ pub enum CommandChoice {
     },
     /// What a capture reports.
     Mon(MonChoice),
-    /// What a capture in this form reports as its lines come; the windows are so many microseconds wider, 300 at most.
-    Follow {
-        form: LineForm,
-        margin: u64,
-        report: FollowReport,
+    /// What a capture reports as its lines come.
+    Follow(FollowChoice),
+    /// The line of a capture, as an edge file: with its levels read the other way round where it is inverted, and without pulses and
+    /// gaps shorter than so many microseconds. Where no form is given, its first line reports it.
+    CapturedLine {
+        form: Option<CaptureForm>,
+        inverted: bool,
+        glitch: u64,
     },
     /// Lines of a run or of a test, as objects.
     Json(Objects),

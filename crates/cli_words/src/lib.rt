@@ -19,8 +19,8 @@ mod subcommand;
 
 pub use at_fault::{Valued, value_at_fault};
 pub use choice::{
-    Asked, CaptureReport, CommandChoice, EdidReading, EdidShape, FollowReport, Listing, MonChoice,
-    Objects, Recipient, Sound, Source, TestView, View,
+    Asked, CaptureReport, CommandChoice, EdidReading, EdidShape, FollowChoice, FollowReport,
+    Listing, MonChoice, Objects, Recipient, Sound, Source, TestView, View,
 };
 pub use line::asked_by;
 pub use mon_flags::signal_in;

@@ -1,8 +1,8 @@
 //! The flags of `mon`.
 ghost use Rattle.std.specs.Prelude.{◌≡◌, map, string_bytes, Some, None, MatchOption, option_and_then};
-ghost use Rattle.cli_words.specs.MonFlags.{follow_choice, form_of, follow_report, goes_further, has_names, is_from_idle, line_form, margin_of, is_misfit, joined_signal, mon_asked, mon_flags, mon_report, signal_in, waited_mon, with_mon_flag, with_mon_value, with_mon_word};
+ghost use Rattle.cli_words.specs.MonFlags.{asks_of_readings, follow_choice, form_of, follow_report, goes_further, has_names, line_choice, line_form, margin_of, is_misfit, joined_signal, mon_asked, mon_flags, mon_report, signal_in, waited_mon, with_mon_flag, with_mon_value, with_mon_word};
 
-use crate::choice::{Asked, CaptureReport, CommandChoice, FollowReport, MonChoice};
+use crate::choice::{Asked, CaptureReport, CommandChoice, FollowChoice, FollowReport, MonChoice};
 use crate::form::form_by;
 use crate::joined::joined;
 use crate::micros::micros_of;
@@ -38,6 +38,8 @@ pub struct MonFlags {
     pub strict: bool,
     pub folded: bool,
     pub json: bool,
+    /// Whether the line itself is written, as an edge file.
+    pub edges: bool,
     /// Whether readings are written as they come.
     pub follows: bool,
     pub explains: bool,
@@ -59,6 +61,7 @@ impl MonFlags {
         strict: false,
         folded: false,
         json: false,
+        edges: false,
         follows: false,
         explains: false,
         waits: None,
@@ -178,6 +181,10 @@ pub(crate) fn with_mon_flag(flags: MonFlags, word: &str) -> Option<MonFlags>
             json: true,
             ..flags
         }),
+        "--edges" if !flags.edges => Some(MonFlags {
+            edges: true,
+            ..flags
+        }),
         "--follow" if !flags.follows => Some(MonFlags {
             follows: true,
             ..flags
@@ -261,34 +268,24 @@ fn line_form(form: Option<CaptureForm>) -> Option<LineForm>
     }
 }
 
-fn is_from_idle(start: Option<CaptureReport>) -> bool
-    ensures { result ≡ is_from_idle start }
-{
-    matches!(start, Some(CaptureReport::FromIdle))
-}
-
-// Whether a flag asks for something else than what is read of the edges as they are, from the first on.
+// Whether a flag asks for something else than what is read of the edges as they are, a line each.
 fn goes_further(flags: &MonFlags) -> bool
     ensures { result ≡ goes_further flags.now }
 {
-    flags.glitch.is_some()
-        || flags.inverted
-        || is_from_idle(flags.start)
-        || flags.strict
-        || flags.folded
-        || flags.json
+    flags.glitch.is_some() || flags.inverted || flags.folded
 }
 
-// What is written of a capture as it comes. An audit is of the whole capture.
-fn follow_report(start: Option<CaptureReport>, audited: bool, timing: bool) -> Option<FollowReport>
-    ensures { result ≡ follow_report start audited timing }
+// What is written of a capture as it comes: its readings where no flag says it.
+fn follow_report(report: Option<CaptureReport>) -> Option<FollowReport>
+    ensures { result ≡ follow_report report }
 {
-    if !audited {
-        return Some(FollowReport::Readings);
-    }
-    match start {
-        None => Some(FollowReport::Audit { timing }),
-        Some(_) => None,
+    match report {
+        None => Some(FollowReport::Readings),
+        Some(report) => match report {
+            CaptureReport::Readings => Some(FollowReport::Readings),
+            CaptureReport::FromIdle => None,
+            CaptureReport::Audit { timing, strict } => Some(FollowReport::Audit { timing, strict }),
+        },
     }
 }
 
@@ -300,11 +297,42 @@ fn follow_choice(flags: &MonFlags) -> Option<CommandChoice>
         return None;
     }
     let form = line_form(flags.form)?;
-    let report = follow_report(flags.start, flags.audit || flags.timing, flags.timing)?;
-    Some(CommandChoice::Follow {
+    let audited = flags.audit || flags.timing;
+    let report = mon_report(flags.start, audited, flags.timing, flags.strict)?;
+    let report = follow_report(report)?;
+    Some(CommandChoice::Follow(FollowChoice {
         form,
         margin: flags.margin.unwrap_or(0),
         report,
+        written: form_by(flags.json),
+    }))
+}
+
+// Whether a flag asks for something of readings, or as they come.
+fn asks_of_readings(flags: &MonFlags) -> bool
+    ensures { result ≡ asks_of_readings flags.now }
+{
+    flags.margin.is_some()
+        || flags.start.is_some()
+        || flags.audit
+        || flags.timing
+        || flags.strict
+        || flags.folded
+        || flags.json
+        || flags.follows
+}
+
+// The line of a capture, of which nothing is read.
+fn line_choice(flags: &MonFlags) -> Option<CommandChoice>
+    ensures { result ≡ line_choice flags.now }
+{
+    if asks_of_readings(flags) {
+        return None;
+    }
+    Some(CommandChoice::CapturedLine {
+        form: flags.form,
+        inverted: flags.inverted,
+        glitch: flags.glitch.unwrap_or(0),
     })
 }
 
@@ -321,6 +349,13 @@ pub fn mon_asked(flags: &MonFlags) -> Option<Asked>
 {
     if is_misfit(flags) {
         return None;
+    }
+    if flags.edges {
+        let choice = line_choice(flags)?;
+        return Some(Asked {
+            choice,
+            explains: flags.explains,
+        });
     }
     if flags.follows {
         let choice = follow_choice(flags)?;

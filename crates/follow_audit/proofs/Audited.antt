@@ -1,8 +1,9 @@
 -- What is written of the readings of a capture as they end.
-use Rattle.std.proofs.Common.{◌≡◌, ℕ, Bool, true, false, List, [], ◌∷◌, ◌++◌, Option, Some, None, Result, Ok, Err, take, drop, refl, sym, ap, ap₂, subst, ◌∙◌, append_assoc, append-nil, take-append-drop, length, option_map, arith}
+use Rattle.std.proofs.Common.{◌≡◌, ℕ, Bool, true, false, ◌||◌, List, [], ◌∷◌, ◌++◌, Option, Some, None, Result, Ok, Err, take, drop, refl, sym, ap, ap₂, subst, ◌∙◌, append_assoc, append-nil, take-append-drop, length, option_map, arith}
 use Rattle.std.specs.Option.{option_to_list}
 use Rattle.std.specs.Io.KnownBytes.{Appends}
 use Rattle.std.proofs.lemmas.List.{append_cancel_right}
+use Rattle.std.proofs.lemmas.Grind.{flat_map-append}
 use Rattle.text_core.specs.declared.sink.WriteFault.{WriteFault}
 use Rattle.text_core.specs.Cut.{WrittenText}
 use Rattle.line_wave.specs.declared.Edge.{Edge}
@@ -11,16 +12,14 @@ use Rattle.line_reading.specs.Readings.{Listed}
 use Rattle.line_reading.specs.Reports.{listed_as}
 use Rattle.audit_widths.specs.declared.low.Low.{Low}
 use Rattle.audit_widths.specs.Lows.{gone_to}
-use Rattle.capture_monitor.specs.Watch.{listed_line}
-use Rattle.record_core.specs.declared.cell.Form.TheVariants.{Text}
-use Rattle.audit_notes.specs.Lines.{lines_text}
-use Rattle.audit_core.specs.Audit.{Tape, after, after_all, audit_text_of, drive_of, first_tape, line_and_remarks, lows_of, remarks_by, remarks_text, reported_all, summary_text, tape_after, tape_at, tape_by}
-use Rattle.text_core.specs.Adds.{Adds, Tally}
-use Rattle.text_core.proofs.Adding.{nothing, then}
+use Rattle.audit_notes.specs.Lines.{AuditLine, has_remark, line_text, lines_text}
+use Rattle.audit_notes.specs.Lines.AuditLine.{Reading as ReadingLine}
+use Rattle.audit_core.specs.Audit.{Tape, after, after_all, audit_lines, drive_of, first_tape, heard_all, heard_lines, lows_of, remark_lines, remarks_by, summary_lines, tape_after, tape_at, tape_by}
 use Rattle.audit_core.specs.declared.auditor.Auditor.{Auditor}
-use Rattle.follow_audit.specs.Listener.{HearsAll, IsAudited, IsFrontOf, PutsAll, PutsCut, PutsFront, PutsLast, Remarks, Says, SaysAllKnown, SaysLast, SaysSome, TakesEdge, TellsTwo, WaitsForNothing, line_of, remarked, settled_by, waiting_count, waits}
+use Rattle.follow_audit.specs.Listener.{HearsAll, IsAudited, IsFrontOf, PutsAll, PutsCut, PutsFront, PutsLast, Remarks, Says, SaysAllKnown, SaysEnd, SaysLast, SaysSome, TakesEdge, TellsTwo, WaitsForNothing, audit_text, line_of, remarks_of, settled_by, waiting_count, waits}
 use Rattle.follow_audit.specs.Settled.{IsKnown, TwoWait, edges_of, is_settled, later}
 use Rattle.follow_audit.specs.declared.listener.Listener.{Listener}
+use Rattle.follow_audit.specs.declared.view.AuditView.{AuditView}
 use Rattle.follow_audit.proofs.Known.{all_known, gone_before, gone_none, gone_twice, settled_known}
 
 -- ---- readings, one after another
@@ -29,19 +28,16 @@ after_more : (t : Tape) (xs ys : List Listed) → after_all t (xs ++ ys) ≡ aft
 after_more t [] ys = refl
 after_more t (x ∷ xs) ys = after_more (after x t) xs ys
 
-reported_more : (timing : Bool) (t : Tape) (xs ys : List Listed) → reported_all timing t (xs ++ ys) ≡ reported_all timing t xs ++ reported_all timing (after_all t xs) ys
-reported_more timing t [] ys = refl
-reported_more timing t (x ∷ xs) ys =
-    ap (λ (l : List ℕ). line_and_remarks timing t x ++ l) (reported_more timing (after x t) xs ys)
-    ∙ sym (append_assoc (line_and_remarks timing t x) (reported_all timing (after x t) xs) (reported_all timing (after_all (after x t) xs) ys))
+heard_more : (timing : Bool) (t : Tape) (xs ys : List Listed) → heard_all timing t (xs ++ ys) ≡ heard_all timing t xs ++ heard_all timing (after_all t xs) ys
+heard_more timing t [] ys = refl
+heard_more timing t (x ∷ xs) ys =
+    ap (λ (l : List AuditLine). heard_lines timing t x ++ l) (heard_more timing (after x t) xs ys)
+    ∙ sym (append_assoc (heard_lines timing t x) (heard_all timing (after x t) xs) (heard_all timing (after_all (after x t) xs) ys))
 
 -- ---- what there is to remark, by its low stretches and its low drive
 
-abbrev said_by : Bool → Tape → Listed → List Low → Option ℕ → List ℕ
-said_by timing t x lows drive = lines_text Text (remarks_by timing t x lows drive)
-
-same_remarks : (timing : Bool) (a : Auditor) (x : Listed) (p q : List Edge) → lows_of x q ≡ lows_of x p → drive_of x q ≡ drive_of x p → remarks_text timing (tape_at q a) x ≡ remarks_text timing (tape_at p a) x
-same_remarks timing a x p q lows drive = ap₂ (λ (ls : List Low) (d : Option ℕ). said_by timing (tape_at [] a) x ls d) lows drive
+same_remarks : (timing : Bool) (a : Auditor) (x : Listed) (p q : List Edge) → lows_of x q ≡ lows_of x p → drive_of x q ≡ drive_of x p → remark_lines timing (tape_at q a) x ≡ remark_lines timing (tape_at p a) x
+same_remarks timing a x p q lows drive = ap₂ (λ (ls : List Low) (d : Option ℕ). remarks_by timing (tape_at [] a) x ls d) lows drive
 
 same_tape : (old new : Auditor) (x : Listed) (p q : List Edge) → lows_of x q ≡ lows_of x p → tape_at p new ≡ tape_after x (tape_at p old) → tape_at q new ≡ tape_after x (tape_at q old)
 same_tape old new x p q lows kept =
@@ -63,13 +59,13 @@ audited_first a edges none from waiting first = record {
 }
 
 -- the same parts, but for the edges: some of those that were left are kept
-moved : (edges : List Edge) (old new : Listener) (taken left : List Edge) (ended : List Listed) (text : List ℕ) → new.timing ≡ old.timing → new.waiting ≡ old.waiting → new.auditor ≡ old.auditor → new.from ≡ old.from
-    → ((more : List Edge) → gone_to old.from (new.window.items ++ more) ≡ gone_to old.from (old.window.items ++ (taken ++ more))) → IsAudited edges old (taken ++ left) ended text → IsAudited edges new left ended text
-moved edges old new taken left ended text timing waiting auditor from place w = record {
+moved : (edges : List Edge) (old new : Listener) (taken left : List Edge) (ended : List Listed) (lines : List AuditLine) → new.view ≡ old.view → new.waiting ≡ old.waiting → new.auditor ≡ old.auditor → new.from ≡ old.from
+    → ((more : List Edge) → gone_to old.from (new.window.items ++ more) ≡ gone_to old.from (old.window.items ++ (taken ++ more))) → IsAudited edges old (taken ++ left) ended lines → IsAudited edges new left ended lines
+moved edges old new taken left ended lines view waiting auditor from place w = record {
   done = w.done;
   parts = w.parts ∙ ap (λ (o : Option Reading). w.done ++ option_to_list (option_map listed_as o)) (sym waiting);
   kept = ap₂ (λ (n : ℕ) (a : Auditor). tape_at (gone_to n (new.window.items ++ left)) a) from auditor ∙ ap (λ (es : List Edge). tape_at es old.auditor) (place left) ∙ w.kept;
-  said = w.said ∙ ap₂ (λ (b : Bool) (o : Option Reading). reported_all b (first_tape edges) w.done ++ line_of (option_map listed_as o)) (sym timing) (sym waiting);
+  said = w.said ∙ ap₂ (λ (b : AuditView) (o : Option Reading). heard_all b.timing (first_tape edges) w.done ++ line_of (option_map listed_as o)) (sym view) (sym waiting);
   come = w.come ++ taken;
   all = w.all ∙ sym (append_assoc w.come taken left);
   stands = λ es. w.stands es ∙ ap (λ (n : ℕ). gone_to n es) (sym from);
@@ -79,56 +75,56 @@ moved edges old new taken left ended text timing waiting auditor from place w = 
 }
 
 pub takes_none : (a : Listener) (edge : Option Edge) → edge ≡ None → TakesEdge a edge a
-takes_none a edge none = (refl, refl, λ edges left ended text w. subst (λ (o : Option Edge). IsAudited edges a (option_to_list o ++ left) ended text) none w)
+takes_none a edge none = (refl, refl, λ edges left ended lines w. subst (λ (o : Option Edge). IsAudited edges a (option_to_list o ++ left) ended lines) none w)
 
 -- the edges that are no longer needed are let go
-pub takes_less : (old new : Listener) → new.timing ≡ old.timing → new.waiting ≡ old.waiting → new.auditor ≡ old.auditor → new.from ≡ old.from → new.window.items ≡ gone_to old.from old.window.items → TakesEdge old None new
-takes_less old new timing waiting auditor from window = (
-  timing,
+pub takes_less : (old new : Listener) → new.view ≡ old.view → new.waiting ≡ old.waiting → new.auditor ≡ old.auditor → new.from ≡ old.from → new.window.items ≡ gone_to old.from old.window.items → TakesEdge old None new
+takes_less old new view waiting auditor from window = (
+  view,
   waiting,
-  λ edges left ended text w.
-      moved edges old new [] left ended text timing waiting auditor from
+  λ edges left ended lines w.
+      moved edges old new [] left ended lines view waiting auditor from
       (λ more. ap (λ (es : List Edge). gone_to old.from (es ++ more)) window ∙ gone_before old.from old.window.items more) w,
 )
 
-takes_one : (old new : Listener) (edge : Option Edge) (e : Edge) → edge ≡ Some e → new.timing ≡ old.timing → new.waiting ≡ old.waiting → new.auditor ≡ old.auditor → new.from ≡ old.from → new.window.items ≡ old.window.items ++ e ∷ []
+takes_one : (old new : Listener) (edge : Option Edge) (e : Edge) → edge ≡ Some e → new.view ≡ old.view → new.waiting ≡ old.waiting → new.auditor ≡ old.auditor → new.from ≡ old.from → new.window.items ≡ old.window.items ++ e ∷ []
     → TakesEdge old edge new
-takes_one old new edge e is timing waiting auditor from window = (
-  timing,
+takes_one old new edge e is view waiting auditor from window = (
+  view,
   waiting,
-  λ edges left ended text w.
-      moved edges old new (e ∷ []) left ended text timing waiting auditor from
+  λ edges left ended lines w.
+      moved edges old new (e ∷ []) left ended lines view waiting auditor from
       (λ more. ap (λ (es : List Edge). gone_to old.from (es ++ more)) window ∙ ap (gone_to old.from) (append_assoc old.window.items (e ∷ []) more))
-      (subst (λ (o : Option Edge). IsAudited edges old (option_to_list o ++ left) ended text) is w),
+      (subst (λ (o : Option Edge). IsAudited edges old (option_to_list o ++ left) ended lines) is w),
 )
 
-pub takes_next : (old mid new : Listener) (edge : Option Edge) (e : Edge) → edge ≡ Some e → TakesEdge old None mid → new.timing ≡ mid.timing → new.waiting ≡ mid.waiting → new.auditor ≡ mid.auditor → new.from ≡ mid.from
+pub takes_next : (old mid new : Listener) (edge : Option Edge) (e : Edge) → edge ≡ Some e → TakesEdge old None mid → new.view ≡ mid.view → new.waiting ≡ mid.waiting → new.auditor ≡ mid.auditor → new.from ≡ mid.from
     → new.window.items ≡ mid.window.items ++ e ∷ [] → TakesEdge old edge new
-takes_next old mid new edge e is first timing waiting auditor from window =
-    let next = takes_one mid new edge e is timing waiting auditor from window in
-    (timing ∙ first.0, waiting ∙ first.1, λ edges left ended text w. next.2 edges left ended text (first.2 edges (option_to_list edge ++ left) ended text w))
+takes_next old mid new edge e is first view waiting auditor from window =
+    let next = takes_one mid new edge e is view waiting auditor from window in
+    (view ∙ first.0, waiting ∙ first.1, λ edges left ended lines w. next.2 edges left ended lines (first.2 edges (option_to_list edge ++ left) ended lines w))
 
 -- ---- what waits
 
 pub remarks_none : (a : Listener) → a.waiting ≡ None → Remarks a a
 remarks_none a none = record {
   none = none;
-  timing = refl;
-  audited = λ edges left ended text known w. subst (λ (t : List ℕ). IsAudited edges a left ended t) (sym (append-nil text) ∙ ap (λ (o : Option Reading). text ++ by o) (sym none)) w;
+  view = refl;
+  audited = λ edges left ended lines known w. subst (λ (t : List AuditLine). IsAudited edges a left ended t) (sym (append-nil lines) ∙ ap (λ (o : Option Reading). lines ++ by o) (sym none)) w;
 }
   where
-    by : Option Reading → List ℕ
-    by o = remarked (record a { waiting = o })
+    by : Option Reading → List AuditLine
+    by o = remarks_of (record a { waiting = o })
 
-pub remarks_all : (old new : Listener) (r : Reading) → old.waiting ≡ Some r → new.waiting ≡ None → new.timing ≡ old.timing → new.window ≡ old.window → new.from ≡ later old.from r.begin
+pub remarks_all : (old new : Listener) (r : Reading) → old.waiting ≡ Some r → new.waiting ≡ None → new.view ≡ old.view → new.window ≡ old.window → new.from ≡ later old.from r.begin
     → tape_at (gone_to (later old.from r.begin) old.window.items) new.auditor ≡ tape_after (listed_as r) (tape_at (gone_to (later old.from r.begin) old.window.items) old.auditor) → Remarks old new
-remarks_all old new r waiting none timing window from kept = record {
+remarks_all old new r waiting none view window from kept = record {
   none = none;
-  timing = timing;
-  audited = λ edges left ended text known w.
-      all edges left ended text (subst (λ (o : Option Reading). WaitsForNothing (record old { waiting = o }) left) waiting known)
+  view = view;
+  audited = λ edges left ended lines known w.
+      all edges left ended lines (subst (λ (o : Option Reading). WaitsForNothing (record old { waiting = o }) left) waiting known)
       w.done (w.parts ∙ ap (λ (o : Option Reading). w.done ++ option_to_list (option_map listed_as o)) waiting) w.kept
-      (w.said ∙ ap (λ (o : Option Reading). reported_all old.timing (first_tape edges) w.done ++ line_of (option_map listed_as o)) waiting)
+      (w.said ∙ ap (λ (o : Option Reading). heard_all old.view.timing (first_tape edges) w.done ++ line_of (option_map listed_as o)) waiting)
       w.come w.all w.stands w.window;
 }
   where
@@ -138,24 +134,24 @@ remarks_all old new r waiting none timing window from kept = record {
     p : List Edge
     p = gone_to (later old.from r.begin) old.window.items
 
-    said : remarked old ≡ remarks_text old.timing (tape_at p old.auditor) x
-    said = ap (λ (o : Option Reading). remarked (record old { waiting = o })) waiting
+    said : remarks_of old ≡ remark_lines old.view.timing (tape_at p old.auditor) x
+    said = ap (λ (o : Option Reading). remarks_of (record old { waiting = o })) waiting
 
-    all : (edges left : List Edge) (ended : List Listed) (text : List ℕ) → IsKnown old.from old.window.items left (listed_as r) → (done : List Listed) → ended ≡ done ++ listed_as r ∷ []
-        → tape_at (gone_to old.from (old.window.items ++ left)) old.auditor ≡ after_all (first_tape edges) done → text ≡ reported_all old.timing (first_tape edges) done ++ listed_line (listed_as r)
+    all : (edges left : List Edge) (ended : List Listed) (lines : List AuditLine) → IsKnown old.from old.window.items left (listed_as r) → (done : List Listed) → ended ≡ done ++ listed_as r ∷ []
+        → tape_at (gone_to old.from (old.window.items ++ left)) old.auditor ≡ after_all (first_tape edges) done → lines ≡ heard_all old.view.timing (first_tape edges) done ++ ReadingLine (listed_as r) ∷ []
         → (come : List Edge) → edges ≡ come ++ left → ((es : List Edge) → (after_all (first_tape es) done).place ≡ gone_to old.from es)
-        → ((more : List Edge) → gone_to old.from (come ++ more) ≡ gone_to old.from (old.window.items ++ more)) → IsAudited edges new left ended (text ++ remarked old)
-    all edges left ended text known done parts place front came split stands windows = record {
+        → ((more : List Edge) → gone_to old.from (come ++ more) ≡ gone_to old.from (old.window.items ++ more)) → IsAudited edges new left ended (lines ++ remarks_of old)
+    all edges left ended lines known done parts place front came split stands windows = record {
       done = done ++ x ∷ [];
       parts = parts ∙ sym (append-nil (done ++ x ∷ [])) ∙ ap (λ (o : Option Reading). (done ++ x ∷ []) ++ option_to_list (option_map listed_as o)) (sym none);
       kept = ap₂ (λ (n : ℕ) (es : List Edge). tape_at (gone_to n (es ++ left)) new.auditor) from (ap (λ w. w.items) window) ∙ ap (λ (es : List Edge). tape_at es new.auditor) known.place
           ∙ same_tape old.auditor new.auditor x p (p ++ left) known.lows kept ∙ ap (tape_after x) (sym come) ∙ sym (after_more (first_tape edges) done (x ∷ []));
-      said = ap₂ (λ (a b : List ℕ). a ++ b) front (said ∙ sym (same_remarks old.timing old.auditor x p (p ++ left) known.lows known.drive) ∙ ap (λ (t : Tape). remarks_text old.timing t x) (sym come))
-          ∙ append_assoc (reported_all old.timing (first_tape edges) done) (listed_line x) (remarks_text old.timing (record t { place = gone_to r.begin t.place }) x)
-          ∙ ap (λ (l : List ℕ). reported_all old.timing (first_tape edges) done ++ l) (sym (append-nil (line_and_remarks old.timing t x)))
-          ∙ sym (reported_more old.timing (first_tape edges) done (x ∷ []))
-          ∙ sym (append-nil (reported_all old.timing (first_tape edges) (done ++ x ∷ [])))
-          ∙ ap₂ (λ (b : Bool) (o : Option Reading). reported_all b (first_tape edges) (done ++ x ∷ []) ++ line_of (option_map listed_as o)) (sym timing) (sym none);
+      said = ap₂ (λ (a b : List AuditLine). a ++ b) front (said ∙ sym (same_remarks old.view.timing old.auditor x p (p ++ left) known.lows known.drive) ∙ ap (λ (t : Tape). remark_lines old.view.timing t x) (sym come))
+          ∙ append_assoc (heard_all old.view.timing (first_tape edges) done) (ReadingLine x ∷ []) (remark_lines old.view.timing (record t { place = gone_to r.begin t.place }) x)
+          ∙ ap (λ (l : List AuditLine). heard_all old.view.timing (first_tape edges) done ++ l) (sym (append-nil (heard_lines old.view.timing t x)))
+          ∙ sym (heard_more old.view.timing (first_tape edges) done (x ∷ []))
+          ∙ sym (append-nil (heard_all old.view.timing (first_tape edges) (done ++ x ∷ [])))
+          ∙ ap₂ (λ (b : AuditView) (o : Option Reading). heard_all b.timing (first_tape edges) (done ++ x ∷ []) ++ line_of (option_map listed_as o)) (sym view) (sym none);
       come = came;
       all = split;
       stands = λ es.
@@ -173,11 +169,18 @@ remarks_all old new r waiting none timing window from kept = record {
         come = ap (λ (t : Tape). record t { place = gone_to r.begin t.place }) (sym place)
             ∙ ap (λ (es : List Edge). tape_at es old.auditor) (gone_twice old.from r.begin (old.window.items ++ left) ∙ known.place)
 
-pub remarked_none : (a : Listener) (t : Tally) → a.waiting ≡ None → Adds t t (remarked a)
-remarked_none a t none = subst (λ (o : Option Reading). Adds t t (by o)) (sym none) (nothing t)
+pub remarked_none : {H : Type 0} (hears : H → List AuditLine → H → Type 0) (a : Listener) (t : H) → hears t [] t → a.waiting ≡ None → hears t (remarks_of a) t
+remarked_none hears a t nothing none = subst (λ (o : Option Reading). hears t (by o) t) (sym none) nothing
   where
-    by : Option Reading → List ℕ
-    by o = remarked (record a { waiting = o })
+    by : Option Reading → List AuditLine
+    by o = remarks_of (record a { waiting = o })
+
+-- what there is to remark of it was heard, of these edges from its fall on
+pub remarked_all : {H : Type 0} (hears : H → List AuditLine → H → Type 0) (a : Listener) (r : Reading) (mid out : H) → a.waiting ≡ Some r → {edges : List Edge} → edges ≡ gone_to (later a.from r.begin) a.window.items
+    → hears mid (remark_lines a.view.timing (tape_at edges a.auditor) (listed_as r)) out → hears mid (remarks_of a) out
+remarked_all {H} hears a r mid out is {edges} same heard =
+    subst (λ (ls : List AuditLine). hears mid ls out)
+    (ap (λ (es : List Edge). remark_lines a.view.timing (tape_at es a.auditor) (listed_as r)) same ∙ ap (λ (o : Option Reading). remarks_of (record a { waiting = o })) (sym is)) heard
 
 -- whether that is known
 pub all_told : (a : Listener) → a.waiting ≡ None → SaysAllKnown a
@@ -195,42 +198,42 @@ known_settled a r is settled left =
 
 -- ---- what is said
 
-no_more : (edges : List Edge) (a : Listener) (left : List Edge) (ended : List Listed) (text : List ℕ) → IsAudited edges a left ended text → IsAudited edges a left (ended ++ []) text
-no_more edges a left ended text w = subst (λ (xs : List Listed). IsAudited edges a left xs text) (sym (append-nil ended)) w
+no_more : (edges : List Edge) (a : Listener) (left : List Edge) (ended : List Listed) (lines : List AuditLine) → IsAudited edges a left ended lines → IsAudited edges a left (ended ++ []) lines
+no_more edges a left ended lines w = subst (λ (xs : List Listed). IsAudited edges a left xs lines) (sym (append-nil ended)) w
 
 -- nothing
-pub says_none : (a : Listener) (mid : Tally) → Says a [] a mid mid
-says_none a mid = record {
-  text = [];
-  put = nothing mid;
-  timing = refl;
-  audited = λ edges left ended so_far w. no_more edges a left ended (so_far ++ []) (subst (λ (t : List ℕ). IsAudited edges a left ended t) (sym (append-nil so_far)) w);
+pub says_none : {H : Type 0} (hears : H → List AuditLine → H → Type 0) (a : Listener) (mid : H) → hears mid [] mid → Says hears a [] a mid mid
+says_none hears a mid nothing = record {
+  lines = [];
+  put = nothing;
+  view = refl;
+  audited = λ edges left ended so_far w. no_more edges a left ended (so_far ++ []) (subst (λ (t : List AuditLine). IsAudited edges a left ended t) (sym (append-nil so_far)) w);
 }
 
-pub says_remarked : (old new : Listener) (mid out : Tally) → ((left : List Edge) → WaitsForNothing old left) → Remarks old new → Adds mid out (remarked old) → Says old [] new mid out
-says_remarked old new mid out known r put = record {
-  text = remarked old;
+pub says_remarked : {H : Type 0} (hears : H → List AuditLine → H → Type 0) (old new : Listener) (mid out : H) → ((left : List Edge) → WaitsForNothing old left) → Remarks old new → hears mid (remarks_of old) out → Says hears old [] new mid out
+says_remarked hears old new mid out known r put = record {
+  lines = remarks_of old;
   put = put;
-  timing = r.timing;
-  audited = λ edges left ended so_far w. no_more edges new left ended (so_far ++ remarked old) (r.audited edges left ended so_far (known left) w);
+  view = r.view;
+  audited = λ edges left ended so_far w. no_more edges new left ended (so_far ++ remarks_of old) (r.audited edges left ended so_far (known left) w);
 }
 
 -- the line of a reading that waits then
-pub says_line : (old new : Listener) (r : Reading) (mid out : Tally) → old.waiting ≡ None → new.waiting ≡ Some r → new.timing ≡ old.timing → new.auditor ≡ old.auditor
-    → new.from ≡ old.from → new.window ≡ old.window → Adds mid out (listed_line (listed_as r)) → Says old (listed_as r ∷ []) new mid out
-says_line old new r mid out none waiting timing auditor from window put = record {
-  text = listed_line (listed_as r);
+pub says_line : {H : Type 0} (hears : H → List AuditLine → H → Type 0) (old new : Listener) (r : Reading) (mid out : H) → old.waiting ≡ None → new.waiting ≡ Some r → new.view ≡ old.view → new.auditor ≡ old.auditor
+    → new.from ≡ old.from → new.window ≡ old.window → hears mid (ReadingLine (listed_as r) ∷ []) out → Says hears old (listed_as r ∷ []) new mid out
+says_line hears old new r mid out none waiting view auditor from window put = record {
+  lines = ReadingLine (listed_as r) ∷ [];
   put = put;
-  timing = timing;
+  view = view;
   audited = λ edges left ended so_far w.
-      let said = w.said ∙ ap (λ (o : Option Reading). reported_all old.timing (first_tape edges) w.done ++ line_of (option_map listed_as o)) none ∙ append-nil (reported_all old.timing (first_tape edges) w.done) in
+      let said = w.said ∙ ap (λ (o : Option Reading). heard_all old.view.timing (first_tape edges) w.done ++ line_of (option_map listed_as o)) none ∙ append-nil (heard_all old.view.timing (first_tape edges) w.done) in
       record {
         done = w.done;
         parts = ap (λ (xs : List Listed). xs ++ listed_as r ∷ []) (w.parts ∙ ap (λ (o : Option Reading). w.done ++ option_to_list (option_map listed_as o)) none ∙ append-nil w.done)
             ∙ ap (λ (o : Option Reading). w.done ++ option_to_list (option_map listed_as o)) (sym waiting);
         kept = ap₂ (λ (es : List Edge) (a : Auditor). tape_at es a) (ap₂ (λ (n : ℕ) (es : List Edge). gone_to n (es ++ left)) from (ap (λ w. w.items) window)) auditor ∙ w.kept;
-        said = ap (λ (l : List ℕ). l ++ listed_line (listed_as r)) said
-            ∙ ap₂ (λ (b : Bool) (o : Option Reading). reported_all b (first_tape edges) w.done ++ line_of (option_map listed_as o)) (sym timing) (sym waiting);
+        said = ap (λ (l : List AuditLine). l ++ ReadingLine (listed_as r) ∷ []) said
+            ∙ ap₂ (λ (b : AuditView) (o : Option Reading). heard_all b.timing (first_tape edges) w.done ++ line_of (option_map listed_as o)) (sym view) (sym waiting);
         come = w.come;
         all = w.all;
         stands = λ es. w.stands es ∙ ap (λ (n : ℕ). gone_to n es) (sym from);
@@ -239,50 +242,54 @@ says_line old new r mid out none waiting timing auditor from window put = record
       };
 }
 
+-- lines after lines
+abbrev pub AreBoth : {H : Type 0} → (H → List AuditLine → H → Type 0) → Type 0
+AreBoth {H} hears = (a b c : H) (xs ys : List AuditLine) → hears a xs b → hears b ys c → hears a (xs ++ ys) c
+
 -- one after another
-pub says_two : {old mid new : Listener} {xs ys : List Listed} {a b c : Tally} → Says old xs mid a b → Says mid ys new b c → Says old (xs ++ ys) new a c
-says_two {old} {mid} {new} {xs} {ys} {a} {b} {c} one two = record {
-  text = one.text ++ two.text;
-  put = then a b c one.text two.text one.put two.put;
-  timing = two.timing ∙ one.timing;
+pub says_two : {H : Type 0} (hears : H → List AuditLine → H → Type 0) → AreBoth hears → {old mid new : Listener} {xs ys : List Listed} {a b c : H} → Says hears old xs mid a b → Says hears mid ys new b c → Says hears old (xs ++ ys) new a c
+says_two {H} hears both {old} {mid} {new} {xs} {ys} {a} {b} {c} one two = record {
+  lines = one.lines ++ two.lines;
+  put = both a b c one.lines two.lines one.put two.put;
+  view = two.view ∙ one.view;
   audited = λ edges left ended so_far w.
-      subst (λ (zs : List Listed). IsAudited edges new left zs (so_far ++ (one.text ++ two.text))) (append_assoc ended xs ys)
-      (subst (λ (z : List ℕ). IsAudited edges new left ((ended ++ xs) ++ ys) z) (append_assoc so_far one.text two.text)
-      (two.audited edges left (ended ++ xs) (so_far ++ one.text) (one.audited edges left ended so_far w)));
+      subst (λ (zs : List Listed). IsAudited edges new left zs (so_far ++ (one.lines ++ two.lines))) (append_assoc ended xs ys)
+      (subst (λ (z : List AuditLine). IsAudited edges new left ((ended ++ xs) ++ ys) z) (append_assoc so_far one.lines two.lines)
+      (two.audited edges left (ended ++ xs) (so_far ++ one.lines) (one.audited edges left ended so_far w)));
 }
 
-pub says_more : {old mid new : Listener} {xs : List Listed} {a b c : Tally} → Says old xs mid a b → Says mid [] new b c → Says old xs new a c
-says_more {old} {mid} {new} {xs} {a} {b} {c} one two = subst (λ (zs : List Listed). Says old zs new a c) (append-nil xs) (says_two one two)
+pub says_more : {H : Type 0} (hears : H → List AuditLine → H → Type 0) → AreBoth hears → {old mid new : Listener} {xs : List Listed} {a b c : H} → Says hears old xs mid a b → Says hears mid [] new b c → Says hears old xs new a c
+says_more {H} hears both {old} {mid} {new} {xs} {a} {b} {c} one two = subst (λ (zs : List Listed). Says hears old zs new a c) (append-nil xs) (says_two hears both one two)
 
 -- a reading before which something waits is not heard
-pub hears_none : (a : Listener) (x : Listed) (mid : Tally) → waiting_count a ≡ 1 → SaysSome a (x ∷ []) a mid mid
-hears_none a x mid one = record { heard = []; next = x; rest = []; parts = refl; one = one; says = says_none a mid }
+pub hears_none : {H : Type 0} (hears : H → List AuditLine → H → Type 0) (a : Listener) (x : Listed) (mid : H) → hears mid [] mid → waiting_count a ≡ 1 → SaysSome hears a (x ∷ []) a mid mid
+hears_none hears a x mid nothing one = record { heard = []; next = x; rest = []; parts = refl; one = one; says = says_none hears a mid nothing }
 
 either : {P : Type 0} → true ≡ false → P
 either h = cc
 
 -- readings were heard, or some of them
-pub heard_all : (old new : Listener) (more : List Listed) (room : Bool) (a b : Tally) → room ≡ true → HearsAll old more room new a b → Says old more new a b
-heard_all old new more true a b is h = h
-heard_all old new more false a b is h = either (sym is)
+pub all_heard : {H : Type 0} (hears : H → List AuditLine → H → Type 0) (old new : Listener) (more : List Listed) (room : Bool) (a b : H) → room ≡ true → HearsAll hears old more room new a b → Says hears old more new a b
+all_heard hears old new more true a b is h = h
+all_heard hears old new more false a b is h = either (sym is)
 
-pub heard_some : (old new : Listener) (more : List Listed) (room : Bool) (a b : Tally) → room ≡ false → HearsAll old more room new a b → SaysSome old more new a b
-heard_some old new more true a b is h = either is
-heard_some old new more false a b is h = h
+pub some_heard : {H : Type 0} (hears : H → List AuditLine → H → Type 0) (old new : Listener) (more : List Listed) (room : Bool) (a b : H) → room ≡ false → HearsAll hears old more room new a b → SaysSome hears old more new a b
+some_heard hears old new more true a b is h = either is
+some_heard hears old new more false a b is h = h
 
 -- readings before which others were heard, or after which others are not heard
-pub some_then : (old mid new : Listener) (xs ys : List Listed) (a b c : Tally) → Says old xs mid a b → SaysSome mid ys new b c → SaysSome old (xs ++ ys) new a c
-some_then old mid new xs ys a b c one some = record {
+pub some_then : {H : Type 0} (hears : H → List AuditLine → H → Type 0) → AreBoth hears → (old mid new : Listener) (xs ys : List Listed) (a b c : H) → Says hears old xs mid a b → SaysSome hears mid ys new b c → SaysSome hears old (xs ++ ys) new a c
+some_then hears both old mid new xs ys a b c one some = record {
   heard = xs ++ some.heard;
   next = some.next;
   rest = some.rest;
   parts = ap (λ (zs : List Listed). xs ++ zs) some.parts ∙ sym (append_assoc xs some.heard (some.next ∷ some.rest));
   one = some.one;
-  says = says_two one some.says;
+  says = says_two hears both one some.says;
 }
 
-pub some_first : (old new : Listener) (xs ys : List Listed) (a b : Tally) → SaysSome old xs new a b → SaysSome old (xs ++ ys) new a b
-some_first old new xs ys a b some = record {
+pub some_first : {H : Type 0} (hears : H → List AuditLine → H → Type 0) (old new : Listener) (xs ys : List Listed) (a b : H) → SaysSome hears old xs new a b → SaysSome hears old (xs ++ ys) new a b
+some_first hears old new xs ys a b some = record {
   heard = some.heard;
   next = some.next;
   rest = some.rest ++ ys;
@@ -291,16 +298,16 @@ some_first old new xs ys a b some = record {
   says = some.says;
 }
 
-pub hears_then : (old mid new : Listener) (xs ys : List Listed) (room : Bool) (a b c : Tally) → Says old xs mid a b → HearsAll mid ys room new b c → HearsAll old (xs ++ ys) room new a c
-hears_then old mid new xs ys true a b c one two = says_two one two
-hears_then old mid new xs ys false a b c one two = some_then old mid new xs ys a b c one two
+pub hears_then : {H : Type 0} (hears : H → List AuditLine → H → Type 0) → AreBoth hears → (old mid new : Listener) (xs ys : List Listed) (room : Bool) (a b c : H) → Says hears old xs mid a b → HearsAll hears mid ys room new b c → HearsAll hears old (xs ++ ys) room new a c
+hears_then hears both old mid new xs ys true a b c one two = says_two hears both one two
+hears_then hears both old mid new xs ys false a b c one two = some_then hears both old mid new xs ys a b c one two
 
 -- ---- where no edge is left
 
-pub last_none : (a : Listener) (mid : Tally) → a.waiting ≡ None → SaysLast a [] a mid mid
-last_none a mid waits =
-    let s = says_none a mid in
-    record { text = s.text; put = s.put; none = waits; timing = refl; audited = λ edges ended so_far w. s.audited edges [] ended so_far w }
+pub last_none : {H : Type 0} (hears : H → List AuditLine → H → Type 0) (a : Listener) (mid : H) → hears mid [] mid → a.waiting ≡ None → SaysLast hears a [] a mid mid
+last_none hears a mid nothing waits =
+    let s = says_none hears a mid nothing in
+    record { lines = s.lines; put = s.put; none = waits; view = refl; audited = λ edges ended so_far w. s.audited edges [] ended so_far w }
 
 known_last : (a : Listener) (o : Option Reading) → a.waiting ≡ o → WaitsForNothing a []
 known_last a o is = subst (λ (o : Option Reading). WaitsForNothing (record a { waiting = o }) []) (sym is) (by o)
@@ -309,75 +316,83 @@ known_last a o is = subst (λ (o : Option Reading). WaitsForNothing (record a { 
     by None = tt
     by (Some r) = all_known a.from a.window.items (listed_as r)
 
-pub last_remarked : (old new : Listener) (mid out : Tally) → Remarks old new → Adds mid out (remarked old) → SaysLast old [] new mid out
-last_remarked old new mid out r put = record {
-  text = remarked old;
+pub last_remarked : {H : Type 0} (hears : H → List AuditLine → H → Type 0) (old new : Listener) (mid out : H) → Remarks old new → hears mid (remarks_of old) out → SaysLast hears old [] new mid out
+last_remarked hears old new mid out r put = record {
+  lines = remarks_of old;
   put = put;
   none = r.none;
-  timing = r.timing;
-  audited = λ edges ended so_far w. no_more edges new [] ended (so_far ++ remarked old) (r.audited edges [] ended so_far (known_last old old.waiting refl) w);
+  view = r.view;
+  audited = λ edges ended so_far w. no_more edges new [] ended (so_far ++ remarks_of old) (r.audited edges [] ended so_far (known_last old old.waiting refl) w);
 }
 
-pub last_line : {old mid new : Listener} {xs : List Listed} {a b c : Tally} → Says old xs mid a b → SaysLast mid [] new b c → SaysLast old xs new a c
-last_line {old} {mid} {new} {xs} {a} {b} {c} one two = record {
-  text = one.text ++ two.text;
-  put = then a b c one.text two.text one.put two.put;
+pub last_line : {H : Type 0} (hears : H → List AuditLine → H → Type 0) → AreBoth hears → {old mid new : Listener} {xs : List Listed} {a b c : H} → Says hears old xs mid a b → SaysLast hears mid [] new b c → SaysLast hears old xs new a c
+last_line {H} hears both {old} {mid} {new} {xs} {a} {b} {c} one two = record {
+  lines = one.lines ++ two.lines;
+  put = both a b c one.lines two.lines one.put two.put;
   none = two.none;
-  timing = two.timing ∙ one.timing;
+  view = two.view ∙ one.view;
   audited = λ edges ended so_far w.
-      subst (λ (zs : List Listed). IsAudited edges new [] zs (so_far ++ (one.text ++ two.text))) (append-nil (ended ++ xs))
-      (subst (λ (z : List ℕ). IsAudited edges new [] ((ended ++ xs) ++ []) z) (append_assoc so_far one.text two.text)
-      (two.audited edges (ended ++ xs) (so_far ++ one.text) (one.audited edges [] ended so_far w)));
+      subst (λ (zs : List Listed). IsAudited edges new [] zs (so_far ++ (one.lines ++ two.lines))) (append-nil (ended ++ xs))
+      (subst (λ (z : List AuditLine). IsAudited edges new [] ((ended ++ xs) ++ []) z) (append_assoc so_far one.lines two.lines)
+      (two.audited edges (ended ++ xs) (so_far ++ one.lines) (one.audited edges [] ended so_far w)));
 }
 
-pub last_two : {old mid new : Listener} {xs ys : List Listed} {a b c : Tally} → SaysLast old xs mid a b → SaysLast mid ys new b c → SaysLast old (xs ++ ys) new a c
-last_two {old} {mid} {new} {xs} {ys} {a} {b} {c} one two = record {
-  text = one.text ++ two.text;
-  put = then a b c one.text two.text one.put two.put;
+pub last_two : {H : Type 0} (hears : H → List AuditLine → H → Type 0) → AreBoth hears → {old mid new : Listener} {xs ys : List Listed} {a b c : H} → SaysLast hears old xs mid a b → SaysLast hears mid ys new b c → SaysLast hears old (xs ++ ys) new a c
+last_two {H} hears both {old} {mid} {new} {xs} {ys} {a} {b} {c} one two = record {
+  lines = one.lines ++ two.lines;
+  put = both a b c one.lines two.lines one.put two.put;
   none = two.none;
-  timing = two.timing ∙ one.timing;
+  view = two.view ∙ one.view;
   audited = λ edges ended so_far w.
-      subst (λ (zs : List Listed). IsAudited edges new [] zs (so_far ++ (one.text ++ two.text))) (append_assoc ended xs ys)
-      (subst (λ (z : List ℕ). IsAudited edges new [] ((ended ++ xs) ++ ys) z) (append_assoc so_far one.text two.text)
-      (two.audited edges (ended ++ xs) (so_far ++ one.text) (one.audited edges ended so_far w)));
+      subst (λ (zs : List Listed). IsAudited edges new [] zs (so_far ++ (one.lines ++ two.lines))) (append_assoc ended xs ys)
+      (subst (λ (z : List AuditLine). IsAudited edges new [] ((ended ++ xs) ++ ys) z) (append_assoc so_far one.lines two.lines)
+      (two.audited edges (ended ++ xs) (so_far ++ one.lines) (one.audited edges ended so_far w)));
 }
 
 -- ---- fronts
 
--- what is written of the readings that have ended is a front of the audit
-pub audited_front : (edges : List Edge) (a : Listener) (left : List Edge) (ended : List Listed) (text : List ℕ) → IsAudited edges a left ended text → IsFrontOf a.timing edges ended text
-audited_front edges a left ended text w end more = by (waits a) w.parts w.said
+-- what was heard of the readings that have ended are the first lines of the audit
+first_lines : (edges : List Edge) (a : Listener) (left : List Edge) (ended : List Listed) (lines : List AuditLine) → IsAudited edges a left ended lines → (end : ℕ) (more : List Listed)
+    → (rest : List AuditLine) × (audit_lines a.view.timing (record { edges = edges; end = end }) (ended ++ more) ≡ lines ++ rest)
+first_lines edges a left ended lines w end more = by (waits a) w.parts w.said
   where
     t : Tape
     t = after_all (first_tape edges) w.done
 
-    whole : List Listed → List ℕ
-    whole xs = audit_text_of a.timing (record { edges = edges; end = end }) xs
+    whole : List Listed → List AuditLine
+    whole xs = audit_lines a.view.timing (record { edges = edges; end = end }) xs
 
-    last : List Listed → List ℕ
-    last xs = summary_text end (after_all (first_tape edges) xs)
+    last : List Listed → List AuditLine
+    last xs = summary_lines end (after_all (first_tape edges) xs)
 
     -- what is done, and these after it
-    parted : (xs : List Listed) → whole (w.done ++ xs) ≡ reported_all a.timing (first_tape edges) w.done ++ (reported_all a.timing (after_all (first_tape edges) w.done) xs ++ last (w.done ++ xs))
-    parted xs = ap (λ (l : List ℕ). l ++ last (w.done ++ xs)) (reported_more a.timing (first_tape edges) w.done xs)
-        ∙ append_assoc (reported_all a.timing (first_tape edges) w.done) (reported_all a.timing (after_all (first_tape edges) w.done) xs) (last (w.done ++ xs))
+    parted : (xs : List Listed) → whole (w.done ++ xs) ≡ heard_all a.view.timing (first_tape edges) w.done ++ (heard_all a.view.timing (after_all (first_tape edges) w.done) xs ++ last (w.done ++ xs))
+    parted xs = ap (λ (l : List AuditLine). l ++ last (w.done ++ xs)) (heard_more a.view.timing (first_tape edges) w.done xs)
+        ∙ append_assoc (heard_all a.view.timing (first_tape edges) w.done) (heard_all a.view.timing (after_all (first_tape edges) w.done) xs) (last (w.done ++ xs))
 
-    by : (o : Option Listed) → ended ≡ w.done ++ option_to_list o → text ≡ reported_all a.timing (first_tape edges) w.done ++ line_of o → (rest : List ℕ) × (whole (ended ++ more) ≡ text ++ rest)
+    by : (o : Option Listed) → ended ≡ w.done ++ option_to_list o → lines ≡ heard_all a.view.timing (first_tape edges) w.done ++ line_of o → (rest : List AuditLine) × (whole (ended ++ more) ≡ lines ++ rest)
     by None parts said = (
-      reported_all a.timing t more ++ last (w.done ++ more),
+      heard_all a.view.timing t more ++ last (w.done ++ more),
       ap (λ (xs : List Listed). whole (xs ++ more)) (parts ∙ append-nil w.done) ∙ parted more
-          ∙ ap (λ (l : List ℕ). l ++ (reported_all a.timing t more ++ last (w.done ++ more))) (sym (append-nil (reported_all a.timing (first_tape edges) w.done)) ∙ sym said),
+          ∙ ap (λ (l : List AuditLine). l ++ (heard_all a.view.timing t more ++ last (w.done ++ more))) (sym (append-nil (heard_all a.view.timing (first_tape edges) w.done)) ∙ sym said),
     )
     by (Some x) parts said =
-        let remarks = remarks_text a.timing (record t { place = gone_to x.begin t.place }) x in
-        let rest = reported_all a.timing (after x t) more in
+        let remarks = remark_lines a.view.timing (record t { place = gone_to x.begin t.place }) x in
+        let rest = heard_all a.view.timing (after x t) more in
         let summary = last (w.done ++ (x ∷ more)) in (
           (remarks ++ rest) ++ summary,
           ap (λ (xs : List Listed). whole (xs ++ more)) parts ∙ ap whole (append_assoc w.done (x ∷ []) more) ∙ parted (x ∷ more)
-              ∙ ap (λ (l : List ℕ). reported_all a.timing (first_tape edges) w.done ++ l)
-              (ap (λ (l : List ℕ). l ++ summary) (append_assoc (listed_line x) remarks rest) ∙ append_assoc (listed_line x) (remarks ++ rest) summary)
-              ∙ sym (append_assoc (reported_all a.timing (first_tape edges) w.done) (listed_line x) ((remarks ++ rest) ++ summary)) ∙ ap (λ (l : List ℕ). l ++ ((remarks ++ rest) ++ summary)) (sym said),
+              ∙ ap (λ (l : List AuditLine). heard_all a.view.timing (first_tape edges) w.done ++ l)
+              (ap (λ (l : List AuditLine). l ++ summary) (append_assoc (ReadingLine x ∷ []) remarks rest) ∙ append_assoc (ReadingLine x ∷ []) (remarks ++ rest) summary)
+              ∙ sym (append_assoc (heard_all a.view.timing (first_tape edges) w.done) (ReadingLine x ∷ []) ((remarks ++ rest) ++ summary))
+              ∙ ap (λ (l : List AuditLine). l ++ ((remarks ++ rest) ++ summary)) (sym said),
         )
+
+-- their text is a front of its text
+pub audited_front : (edges : List Edge) (a : Listener) (left : List Edge) (ended : List Listed) (lines : List AuditLine) → IsAudited edges a left ended lines → IsFrontOf a.view edges ended (lines_text a.view.written lines)
+audited_front edges a left ended lines w end more =
+    let f = first_lines edges a left ended lines w end more in
+    (lines_text a.view.written f.0, ap (lines_text a.view.written) f.1 ∙ flat_map-append (line_text a.view.written) lines f.0)
 
 -- ---- two that wait
 
@@ -386,9 +401,9 @@ one_waits None h = absurd (omega (arith, h))
 one_waits (Some x) h = (x, refl)
 
 -- by the edges that have come, it is not known what there is to remark of what waits
-unknown_by : (a : Listener) (come left : List Edge) (ended : List Listed) (text : List ℕ) (x : Listed) → (w : IsAudited (come ++ left) a left ended text) → waits a ≡ Some x → SaysAllKnown a
+unknown_by : (a : Listener) (come left : List Edge) (ended : List Listed) (lines : List AuditLine) (x : Listed) → (w : IsAudited (come ++ left) a left ended lines) → waits a ≡ Some x → SaysAllKnown a
     → is_settled x (edges_of come w.done x) ≡ false
-unknown_by a come left ended text x w waits known =
+unknown_by a come left ended lines x w waits known =
     ap (is_settled x) (ap (gone_to x.begin) (w.stands come ∙ window) ∙ gone_twice a.from x.begin a.window.items) ∙ sym (ap (settled_by a) waits) ∙ known
   where
     same : come ≡ w.come
@@ -397,8 +412,8 @@ unknown_by a come left ended text x w waits known =
     window : gone_to a.from come ≡ gone_to a.from a.window.items
     window = ap (gone_to a.from) (same ∙ sym (append-nil w.come)) ∙ w.window [] ∙ ap (gone_to a.from) (append-nil a.window.items)
 
-pub two_told : (old new : Listener) (more : List Listed) (mid out : Tally) → SaysSome old more new mid out → SaysAllKnown new → TellsTwo old more
-two_told old new more mid out some known = record {
+pub two_told : {H : Type 0} (hears : H → List AuditLine → H → Type 0) (old new : Listener) (more : List Listed) (mid out : H) → SaysSome hears old more new mid out → SaysAllKnown new → TellsTwo old more
+two_told hears old new more mid out some known = record {
   first = one.0;
   second = some.next;
   wait = λ come left ended so_far w.
@@ -409,7 +424,7 @@ two_told old new more mid out some known = record {
         parts = ap (λ (xs : List Listed). ended ++ xs) some.parts ∙ sym (append_assoc ended some.heard (some.next ∷ some.rest))
             ∙ ap (λ (xs : List Listed). xs ++ (some.next ∷ some.rest)) (n.parts ∙ ap (λ (o : Option Listed). n.done ++ option_to_list o) one.1)
             ∙ append_assoc n.done (one.0 ∷ []) (some.next ∷ some.rest);
-        unknown = unknown_by new come left (ended ++ some.heard) (so_far ++ some.says.text) one.0 n one.1 known;
+        unknown = unknown_by new come left (ended ++ some.heard) (so_far ++ some.says.lines) one.0 n one.1 known;
       };
 }
   where
@@ -439,80 +454,99 @@ put_all : (old new : Option (List ℕ)) (was is : Bool) (text : List ℕ) (writt
 put_all old new was is text (Ok m) n ok w = w.1
 put_all old new was is text (Err fault) n ok w = cc
 
-pub puts_all : {old new : Listener} {xs : List Listed} {a b : Tally} (before after : Option (List ℕ)) (was is : Bool) (written : Result ℕ WriteFault) (n : ℕ) → written ≡ Ok n → (says : Says old xs new a b)
-    → WrittenText before after was is says.text written → PutsAll old xs new before after
-puts_all {old} {new} {xs} {a} {b} before after was is written n ok says w =
-    record { text = says.text; put = put_all before after was is says.text written n ok w; timing = says.timing; audited = says.audited }
+pub puts_all : {H : Type 0} (hears : H → List AuditLine → H → Type 0) {old new : Listener} {xs : List Listed} {a b : H} (noted is : Bool) (before after : Option (List ℕ)) (was stuck : Bool) (written : Result ℕ WriteFault) (n : ℕ) → written ≡ Ok n
+    → (says : Says hears old xs new a b) → is ≡ (noted || has_remark says.lines) → WrittenText before after was stuck (lines_text old.view.written says.lines) written → PutsAll old xs new noted is before after
+puts_all {H} hears {old} {new} {xs} {a} {b} noted is before after was stuck written n ok says remarked w = record {
+  lines = says.lines;
+  put = put_all before after was stuck (lines_text old.view.written says.lines) written n ok w;
+  noted = remarked;
+  view = says.view;
+  audited = says.audited;
+}
+
+-- a text goes on after another
+text_more : (view : AuditView) (xs ys : List AuditLine) → lines_text view.written (xs ++ ys) ≡ lines_text view.written xs ++ lines_text view.written ys
+text_more view xs ys = flat_map-append (line_text view.written) xs ys
 
 -- of these readings some were heard, and perhaps not all of that was put
-pub puts_front : {old new : Listener} {xs : List Listed} {a b : Tally} (before after : Option (List ℕ)) (was is : Bool) (written : Result ℕ WriteFault) (ys : List Listed) → (says : Says old xs new a b)
-    → WrittenText before after was is says.text written → PutsFront old (xs ++ ys) before after
-puts_front {old} {new} {xs} {a} {b} before after was is written ys says w =
-    let part = put_part before after was is says.text written w in
+pub puts_front : {H : Type 0} (hears : H → List AuditLine → H → Type 0) {old new : Listener} {xs : List Listed} {a b : H} (before after : Option (List ℕ)) (was is : Bool) (written : Result ℕ WriteFault) (ys : List Listed) → (says : Says hears old xs new a b)
+    → WrittenText before after was is (lines_text old.view.written says.lines) written → PutsFront old (xs ++ ys) before after
+puts_front {H} hears {old} {new} {xs} {a} {b} before after was is written ys says w =
+    let part = put_part before after was is (lines_text old.view.written says.lines) written w in
     record {
       text = part.0;
       put = part.3;
       front = λ edges left ended so_far w end more.
-          let f = audited_front edges new left (ended ++ xs) (so_far ++ says.text) (says.audited edges left ended so_far w) end (ys ++ more) in (
+          let same : IsFrontOf old.view edges (ended ++ xs) (lines_text old.view.written (so_far ++ says.lines)) =
+          subst (λ (view : AuditView). IsFrontOf view edges (ended ++ xs) (lines_text view.written (so_far ++ says.lines))) says.view
+          (audited_front edges new left (ended ++ xs) (so_far ++ says.lines) (says.audited edges left ended so_far w)) in
+          let f = same end (ys ++ more) in
+          let front = lines_text old.view.written so_far in (
             part.1 ++ f.0,
-            ap (λ (zs : List Listed). audit_text_of old.timing (record { edges = edges; end = end }) zs)
+            ap (λ (zs : List Listed). audit_text old.view (record { edges = edges; end = end }) zs)
                 (ap (λ (zs : List Listed). zs ++ more) (sym (append_assoc ended xs ys)) ∙ append_assoc (ended ++ xs) ys more)
-                ∙ ap (λ (b : Bool). audit_text_of b (record { edges = edges; end = end }) ((ended ++ xs) ++ (ys ++ more))) (sym says.timing) ∙ f.1
-                ∙ ap (λ (l : List ℕ). (so_far ++ l) ++ f.0) part.2 ∙ ap (λ (l : List ℕ). l ++ f.0) (sym (append_assoc so_far part.0 part.1)) ∙ append_assoc (so_far ++ part.0) part.1 f.0,
+                ∙ f.1 ∙ ap (λ (l : List ℕ). l ++ f.0) (text_more old.view so_far says.lines)
+                ∙ ap (λ (l : List ℕ). (front ++ l) ++ f.0) part.2 ∙ ap (λ (l : List ℕ). l ++ f.0) (sym (append_assoc front part.0 part.1)) ∙ append_assoc (front ++ part.0) part.1 f.0,
           );
     }
 
-pub puts_some : {old new : Listener} {more : List Listed} {a b : Tally} (before after : Option (List ℕ)) (was is : Bool) (written : Result ℕ WriteFault) → (some : SaysSome old more new a b)
-    → WrittenText before after was is some.says.text written → PutsFront old more before after
-puts_some {old} {new} {more} {a} {b} before after was is written some w =
-    subst (λ (zs : List Listed). PutsFront old zs before after) (sym some.parts) (puts_front before after was is written (some.next ∷ some.rest) some.says w)
+pub puts_some : {H : Type 0} (hears : H → List AuditLine → H → Type 0) {old new : Listener} {more : List Listed} {a b : H} (before after : Option (List ℕ)) (was is : Bool) (written : Result ℕ WriteFault) → (some : SaysSome hears old more new a b)
+    → WrittenText before after was is (lines_text old.view.written some.says.lines) written → PutsFront old more before after
+puts_some {H} hears {old} {new} {more} {a} {b} before after was is written some w =
+    subst (λ (zs : List Listed). PutsFront old zs before after) (sym some.parts) (puts_front hears before after was is written (some.next ∷ some.rest) some.says w)
 
-pub puts_cut : {old new : Listener} {xs : List Listed} {a b : Tally} (before after : Option (List ℕ)) (was is : Bool) (written : Result ℕ WriteFault) → (says : Says old xs new a b)
-    → WrittenText before after was is says.text written → PutsFront old xs before after
-puts_cut {old} {new} {xs} {a} {b} before after was is written says w = subst (λ (zs : List Listed). PutsFront old zs before after) (append-nil xs) (puts_front before after was is written [] says w)
+pub puts_cut : {H : Type 0} (hears : H → List AuditLine → H → Type 0) {old new : Listener} {xs : List Listed} {a b : H} (before after : Option (List ℕ)) (was is : Bool) (written : Result ℕ WriteFault) → (says : Says hears old xs new a b)
+    → WrittenText before after was is (lines_text old.view.written says.lines) written → PutsFront old xs before after
+puts_cut {H} hears {old} {new} {xs} {a} {b} before after was is written says w = subst (λ (zs : List Listed). PutsFront old zs before after) (append-nil xs) (puts_front hears before after was is written [] says w)
 
 -- ---- the end
 
 -- what is said of all readings follows
-whole_text : (old mid : Listener) (xs : List Listed) (end : ℕ) (text : List ℕ) → mid.waiting ≡ None → mid.timing ≡ old.timing
-    → ((edges : List Edge) (ended : List Listed) (so_far : List ℕ) → IsAudited edges old [] ended so_far → IsAudited edges mid [] (ended ++ xs) (so_far ++ text))
-    → (edges : List Edge) (ended : List Listed) (so_far : List ℕ) → IsAudited edges old [] ended so_far
-    → audit_text_of old.timing (record { edges = edges; end = end }) (ended ++ xs) ≡ so_far ++ (text ++ summary_text end (tape_at [] mid.auditor))
-whole_text old mid xs end text none timing says edges ended so_far w =
-    ap (λ (zs : List Listed). audit_text_of old.timing (record { edges = edges; end = end }) zs) parts
-    ∙ ap₂ (λ (b : Bool) (t : Tape). reported_all b (first_tape edges) n.done ++ summary_text end t) (sym timing) (sym n.kept)
-    ∙ ap (λ (l : List ℕ). l ++ summary_text end (tape_at [] mid.auditor)) (sym said)
-    ∙ append_assoc so_far text (summary_text end (tape_at [] mid.auditor))
+whole_lines : (old mid : Listener) (xs : List Listed) (end : ℕ) (lines : List AuditLine) → mid.waiting ≡ None → mid.view ≡ old.view
+    → ((edges : List Edge) (ended : List Listed) (so_far : List AuditLine) → IsAudited edges old [] ended so_far → IsAudited edges mid [] (ended ++ xs) (so_far ++ lines))
+    → (edges : List Edge) (ended : List Listed) (so_far : List AuditLine) → IsAudited edges old [] ended so_far
+    → audit_lines old.view.timing (record { edges = edges; end = end }) (ended ++ xs) ≡ so_far ++ (lines ++ summary_lines end (tape_at [] mid.auditor))
+whole_lines old mid xs end lines none view says edges ended so_far w =
+    ap (λ (zs : List Listed). audit_lines old.view.timing (record { edges = edges; end = end }) zs) parts
+    ∙ ap₂ (λ (v : AuditView) (t : Tape). heard_all v.timing (first_tape edges) n.done ++ summary_lines end t) (sym view) (sym n.kept)
+    ∙ ap (λ (l : List AuditLine). l ++ summary_lines end (tape_at [] mid.auditor)) (sym said)
+    ∙ append_assoc so_far lines (summary_lines end (tape_at [] mid.auditor))
   where
-    n : IsAudited edges mid [] (ended ++ xs) (so_far ++ text)
+    n : IsAudited edges mid [] (ended ++ xs) (so_far ++ lines)
     n = says edges ended so_far w
 
     parts : ended ++ xs ≡ n.done
     parts = n.parts ∙ ap (λ (o : Option Reading). n.done ++ option_to_list (option_map listed_as o)) none ∙ append-nil n.done
 
-    said : so_far ++ text ≡ reported_all mid.timing (first_tape edges) n.done
-    said = n.said ∙ ap (λ (o : Option Reading). reported_all mid.timing (first_tape edges) n.done ++ line_of (option_map listed_as o)) none ∙ append-nil (reported_all mid.timing (first_tape edges) n.done)
+    said : so_far ++ lines ≡ heard_all mid.view.timing (first_tape edges) n.done
+    said = n.said ∙ ap (λ (o : Option Reading). heard_all mid.view.timing (first_tape edges) n.done ++ line_of (option_map listed_as o)) none ∙ append-nil (heard_all mid.view.timing (first_tape edges) n.done)
 
--- what is added up to the end
-pub finishes : {old mid : Listener} {xs : List Listed} {a b : Tally} (c : Tally) (end : ℕ) → (says : SaysLast old xs mid a b) → Adds b c (summary_text end (tape_at [] mid.auditor)) → Adds a c (says.text ++ summary_text end (tape_at [] mid.auditor))
-finishes {old} {mid} {xs} {a} {b} c end says last = then a b c says.text (summary_text end (tape_at [] mid.auditor)) says.put last
-
-pub finishes_all : {old mid : Listener} {xs : List Listed} {a b : Tally} (before after : Option (List ℕ)) (was is : Bool) (written : Result ℕ WriteFault) (n end : ℕ) → written ≡ Ok n → (says : SaysLast old xs mid a b)
-    → WrittenText before after was is (says.text ++ summary_text end (tape_at [] mid.auditor)) written → PutsLast old xs end before after
-finishes_all {old} {mid} {xs} {a} {b} before after was is written n end ok says w = record {
-  text = says.text ++ summary_text end (tape_at [] mid.auditor);
-  put = put_all before after was is (says.text ++ summary_text end (tape_at [] mid.auditor)) written n ok w;
-  whole = whole_text old mid xs end says.text says.none says.timing says.audited;
+-- what is heard up to the end
+pub says_end : {H : Type 0} (hears : H → List AuditLine → H → Type 0) → AreBoth hears → {old mid : Listener} {xs : List Listed} {a b : H} (c : H) (end : ℕ) → SaysLast hears old xs mid a b → hears b (summary_lines end (tape_at [] mid.auditor)) c
+    → SaysEnd hears old xs end a c
+says_end {H} hears both {old} {mid} {xs} {a} {b} c end says last = record {
+  lines = says.lines ++ summary_lines end (tape_at [] mid.auditor);
+  put = both a b c says.lines (summary_lines end (tape_at [] mid.auditor)) says.put last;
+  whole = whole_lines old mid xs end says.lines says.none says.view says.audited;
 }
 
-pub finishes_front : {old mid : Listener} {xs : List Listed} {a b : Tally} (before after : Option (List ℕ)) (was is : Bool) (written : Result ℕ WriteFault) (end : ℕ) → (says : SaysLast old xs mid a b)
-    → WrittenText before after was is (says.text ++ summary_text end (tape_at [] mid.auditor)) written → PutsCut old xs end before after
-finishes_front {old} {mid} {xs} {a} {b} before after was is written end says w =
-    let part = put_part before after was is (says.text ++ summary_text end (tape_at [] mid.auditor)) written w in
+pub finishes_all : {H : Type 0} (hears : H → List AuditLine → H → Type 0) {old : Listener} {xs : List Listed} {a b : H} (noted is : Bool) (before after : Option (List ℕ)) (was stuck : Bool) (written : Result ℕ WriteFault) (n end : ℕ) → written ≡ Ok n
+    → (says : SaysEnd hears old xs end a b) → is ≡ (noted || has_remark says.lines) → WrittenText before after was stuck (lines_text old.view.written says.lines) written → PutsLast old xs end noted is before after
+finishes_all {H} hears {old} {xs} {a} {b} noted is before after was stuck written n end ok says remarked w = record {
+  lines = says.lines;
+  put = put_all before after was stuck (lines_text old.view.written says.lines) written n ok w;
+  noted = remarked;
+  whole = says.whole;
+}
+
+pub finishes_front : {H : Type 0} (hears : H → List AuditLine → H → Type 0) {old : Listener} {xs : List Listed} {a b : H} (before after : Option (List ℕ)) (was is : Bool) (written : Result ℕ WriteFault) (end : ℕ) → (says : SaysEnd hears old xs end a b)
+    → WrittenText before after was is (lines_text old.view.written says.lines) written → PutsCut old xs end before after
+finishes_front {H} hears {old} {xs} {a} {b} before after was is written end says w =
+    let part = put_part before after was is (lines_text old.view.written says.lines) written w in
     record {
       text = part.0;
       rest = part.1;
       put = part.3;
       whole = λ edges ended so_far w.
-          whole_text old mid xs end says.text says.none says.timing says.audited edges ended so_far w ∙ ap (λ (l : List ℕ). so_far ++ l) part.2;
+          ap (lines_text old.view.written) (says.whole edges ended so_far w) ∙ text_more old.view so_far says.lines ∙ ap (λ (l : List ℕ). lines_text old.view.written so_far ++ l) part.2;
     }

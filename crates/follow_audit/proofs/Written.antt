@@ -21,6 +21,10 @@ use Rattle.follow_audit.specs.Follow.{BeginsWithTwo, Ends, Follows, HasBegun, Ha
 use Rattle.follow_audit.specs.declared.error.FollowAuditError.{FollowAuditError}
 use Rattle.follow_audit.specs.declared.error.FollowAuditError.TheVariants.{Capture, Memory, Read, TooLong, Waiting, Write}
 use Rattle.follow_audit.specs.declared.follower.AuditFollower.{AuditFollower}
+use Rattle.follow_audit.specs.declared.view.AuditView.{AuditView}
+use Rattle.audit_notes.specs.Lines.{AuditLine, has_remark, line_text, lines_text}
+use Rattle.audit_notes.specs.Hearing.{both_found}
+use Rattle.std.proofs.lemmas.Grind.{flat_map-append}
 use Rattle.follow_audit.proofs.Followed.{followed_front, lines_again}
 
 -- ---- what was put is handed on
@@ -60,9 +64,22 @@ as_end number f before after TooLong h = h
 as_end number f before after Waiting h = h
 as_end number f before after Memory h = h
 
+-- the text of lines after lines, as a follower writes them
+text_more : (view : AuditView) (xs ys : List AuditLine) → lines_text view.written (xs ++ ys) ≡ lines_text view.written xs ++ lines_text view.written ys
+text_more view xs ys = flat_map-append (line_text view.written) xs ys
+
+text_of_both : (f : AuditFollower) (view : AuditView) (xs ys : List AuditLine) → f.listener.view ≡ view → lines_text view.written (xs ++ ys) ≡ lines_text view.written xs ++ lines_text f.listener.view.written ys
+text_of_both f view xs ys same = text_more view xs ys ∙ ap (λ (v : AuditView). lines_text view.written xs ++ lines_text v.written ys) (sym same)
+
+-- put after others, they are all
+put_more : (f : AuditFollower) (view : AuditView) (before mid after : Option (List ℕ)) (xs ys : List AuditLine) → f.listener.view ≡ view → Appends before mid (lines_text view.written xs) → Appends mid after (lines_text f.listener.view.written ys)
+    → Appends before after (lines_text view.written (xs ++ ys))
+put_more f view before mid after xs ys same first second =
+    subst (λ t. Appends before after t) (sym (text_of_both f view xs ys same)) (Appends-trans before mid after (lines_text view.written xs) (lines_text f.listener.view.written ys) first second)
+
 pub heard_handed : (signal : List ℕ) (number : ℕ) (line : List ℕ) (old new : AuditFollower) (before mid after : Option (List ℕ)) → Hears signal number line old new before mid (Ok tt) → Keeps mid after
     → Hears signal number line old new before after (Ok tt)
-heard_handed signal number line old new before mid after h k = record { text = h.text; put = Appends-kept before mid after h.text h.put k; followed = h.followed; prompt = h.prompt }
+heard_handed signal number line old new before mid after h k = record { heard = h.heard; put = Appends-kept before mid after (lines_text old.listener.view.written h.heard) h.put k; followed = h.followed; prompt = h.prompt }
 
 stop_kept : (signal : List ℕ) (number : ℕ) (line : List ℕ) (old : AuditFollower) (before mid after : Option (List ℕ)) → HasStopped signal number line old before mid → Keeps mid after → HasStopped signal number line old before after
 stop_kept signal number line old before mid after h k = record { text = h.text; put = Appends-kept before mid after h.text h.put k; front = h.front }
@@ -86,13 +103,15 @@ stopped_handed signal number line old new before mid after error other h k same 
 pub heard_stopped : (signal : List ℕ) (number : ℕ) (line : List ℕ) (old new : AuditFollower) (before mid after : Option (List ℕ)) (count : ℕ) → Hears signal number line old new before mid (Ok tt) → Keeps mid after
     → Hears signal number line old new before after (Err (Write count))
 heard_stopped signal number line old new before mid after count h k = record {
-  text = h.text;
-  put = Appends-kept before mid after h.text h.put k;
-  front = λ form win timing past so_far w. followed_front form signal win timing (past ++ line ∷ []) (number + 1) new (so_far ++ h.text) (h.followed form win timing past so_far w);
+  text = lines_text old.listener.view.written h.heard;
+  put = Appends-kept before mid after (lines_text old.listener.view.written h.heard) h.put k;
+  front = λ form win view past so_far w rest c left read.
+      let f = followed_front form signal win view (past ++ line ∷ []) (number + 1) new (so_far ++ h.heard) (h.followed form win view past so_far w) rest c left read in
+      (f.0, f.1 ∙ ap (λ t. t ++ f.0) (text_of_both old view so_far h.heard w.viewed));
 }
 
-pub end_handed : (number : ℕ) (f : AuditFollower) (before mid after : Option (List ℕ)) → Ends number f before mid (Ok tt) → Keeps mid after → Ends number f before after (Ok tt)
-end_handed number f before mid after h k = record { text = h.text; put = Appends-kept before mid after h.text h.put k; all = h.all }
+pub end_handed : (number : ℕ) (f : AuditFollower) (before mid after : Option (List ℕ)) (is : Bool) → Ends number f before mid (Ok is) → Keeps mid after → Ends number f before after (Ok is)
+end_handed number f before mid after is h k = record { heard = h.heard; put = Appends-kept before mid after (lines_text f.listener.view.written h.heard) h.put k; noted = h.noted; all = h.all }
 
 cut_kept : (number : ℕ) (f : AuditFollower) (before mid after : Option (List ℕ)) → HasCut number f before mid → Keeps mid after → HasCut number f before after
 cut_kept number f before mid after h k = record { text = h.text; put = Appends-kept before mid after h.text h.put k; front = h.front }
@@ -128,22 +147,23 @@ handed_alone Waiting old new h none = tt
 handed_alone Memory old new h none = tt
 handed_alone (Write count) old new h none = tt
 
-pub handed_after : (result : Result (Unit {0}) FollowAuditError) (old mid new : List ℕ) → (old ≡ [] → mid ≡ []) → HoldsNothing result mid new → HoldsNothing result old new
-handed_after (Ok done) old mid new before h = tt
-handed_after (Err error) old mid new before h = λ none. h (before none)
+pub handed_after : {A : Type 0} (result : Result A FollowAuditError) (old mid new : List ℕ) → (old ≡ [] → mid ≡ []) → HoldsNothing result mid new → HoldsNothing result old new
+handed_after {A} (Ok done) old mid new before h = tt
+handed_after {A} (Err error) old mid new before h = λ none. h (before none)
 
 same_capture : (r : Result Captured (At Cause)) (a b : Captured) → r ≡ Ok a → r ≡ Ok b → a ≡ b
 same_capture (Ok d) a b x y = cc
 same_capture (Err f) a b x y = cc
 
-pub end_stopped : (number : ℕ) (f : AuditFollower) (before mid after : Option (List ℕ)) (count : ℕ) → Ends number f before mid (Ok tt) → Keeps mid after → Ends number f before after (Err (Write count))
-end_stopped number f before mid after count h k = record {
-  text = h.text;
-  put = Appends-kept before mid after h.text h.put k;
-  front = λ form signal win timing past so_far w rest c none read.
-      let whole = h.all form signal win timing past so_far w in
-      let is = same_capture (lines_captured form signal past) whole.capture c whole.read (ap (lines_captured form signal) (sym (append-nil past) ∙ ap (λ ls. past ++ ls) (sym none)) ∙ read) in
-      ([], ap (text_of timing win) (sym is) ∙ whole.all ∙ sym (append-nil (so_far ++ h.text)));
+pub end_stopped : (number : ℕ) (f : AuditFollower) (before mid after : Option (List ℕ)) (is : Bool) (count : ℕ) → Ends number f before mid (Ok is) → Keeps mid after → Ends number f before after (Err (Write count))
+end_stopped number f before mid after is count h k = record {
+  text = lines_text f.listener.view.written h.heard;
+  put = Appends-kept before mid after (lines_text f.listener.view.written h.heard) h.put k;
+  front = λ form signal win view past so_far w rest c none read.
+      let whole = h.all form signal win view past so_far w in
+      let same = same_capture (lines_captured form signal past) whole.capture c whole.read (ap (lines_captured form signal) (sym (append-nil past) ∙ ap (λ ls. past ++ ls) (sym none)) ∙ read) in
+      let text = lines_text view.written so_far ++ lines_text f.listener.view.written h.heard in
+      ([], ap (text_of view win) (sym same) ∙ ap (lines_text view.written) whole.all ∙ text_of_both f view so_far h.heard w.viewed ∙ sym (append-nil text));
 }
 
 -- ---- an input
@@ -161,16 +181,16 @@ pub next_end : (old new : Option (List ℕ)) (line : List ℕ) (more : Bool) →
 next_end old new line true is h = cc
 next_end old new line false is h = h
 
-pub record Going (form : LineForm) (signal : List ℕ) (win : Windows) (timing : Bool) (known now before after : Option (List ℕ)) (f : AuditFollower) (number : ℕ) : Type 0 where
+pub record Going (form : LineForm) (signal : List ℕ) (win : Windows) (view : AuditView) (known now before after : Option (List ℕ)) (f : AuditFollower) (number : ℕ) : Type 0 where
   pub past : List (List ℕ)
   pub count : number ≡ length past + 1
-  pub text : List ℕ
+  pub heard : List AuditLine
   pub come : Come known now past
   pub whole : All IsWhole past
-  pub followed : IsFollowed form signal win timing past number f text
+  pub followed : IsFollowed form signal win view past number f heard
   pub prompt : IsPrompt f
   pub ready : IsReady f
-  pub put : Appends before after text
+  pub put : Appends before after (lines_text view.written heard)
 
 nothing_pending : (known : Option (List ℕ)) → prepend_known [] known ≡ known
 nothing_pending None = refl
@@ -180,12 +200,12 @@ come_none : (known : Option (List ℕ)) → Come known known []
 come_none None = tt
 come_none (Some xs) = refl
 
-pub going_first : (form : LineForm) (signal : List ℕ) (win : Windows) (timing : Bool) (known before : Option (List ℕ)) (left : List ℕ) (f : AuditFollower) → left ≡ [] → IsFollowed form signal win timing [] 1 f [] → IsPrompt f → IsReady f
-    → Going form signal win timing known (prepend_known left known) before before f 1
-going_first form signal win timing known before left f none w prompt ready = record {
+pub going_first : (form : LineForm) (signal : List ℕ) (win : Windows) (view : AuditView) (known before : Option (List ℕ)) (left : List ℕ) (f : AuditFollower) → left ≡ [] → IsFollowed form signal win view [] 1 f [] → IsPrompt f → IsReady f
+    → Going form signal win view known (prepend_known left known) before before f 1
+going_first form signal win view known before left f none w prompt ready = record {
   past = [];
   count = refl;
-  text = [];
+  heard = [];
   come = subst (λ (now : Option (List ℕ)). Come known now []) (sym (ap (λ l. prepend_known l known) none ∙ nothing_pending known)) (come_none known);
   whole = All-nil IsWhole;
   followed = w;
@@ -205,18 +225,18 @@ count_more past line number count =
     let more : length (past ++ line ∷ []) ≡ length past + 1 = length-append past (line ∷ []) in
     omega (arith, more, count)
 
-pub going_more : (form : LineForm) (signal : List ℕ) (win : Windows) (timing : Bool) (known now next before mid after : Option (List ℕ)) (old new : AuditFollower) (number : ℕ) (line : List ℕ) → Going form signal win timing known now before mid old number → IsWhole line
-    → Leads now next line → HasHeard signal number line old new mid after → IsReady new → Going form signal win timing known next before after new (number + 1)
-going_more form signal win timing known now next before mid after old new number line g whole leads h ready = record {
+pub going_more : (form : LineForm) (signal : List ℕ) (win : Windows) (view : AuditView) (known now next before mid after : Option (List ℕ)) (old new : AuditFollower) (number : ℕ) (line : List ℕ) → Going form signal win view known now before mid old number → IsWhole line
+    → Leads now next line → HasHeard signal number line old new mid after → IsReady new → Going form signal win view known next before after new (number + 1)
+going_more form signal win view known now next before mid after old new number line g whole leads h ready = record {
   past = g.past ++ line ∷ [];
   count = count_more g.past line number g.count;
-  text = g.text ++ h.text;
+  heard = g.heard ++ h.heard;
   come = come_more known now next g.past line g.come leads;
   whole = All-append IsWhole g.past (line ∷ []) g.whole (All-cons IsWhole line [] whole (All-nil IsWhole));
-  followed = h.followed form win timing g.past g.text g.followed;
+  followed = h.followed form win view g.past g.heard g.followed;
   prompt = h.prompt;
   ready = ready;
-  put = Appends-trans before mid after g.text h.text g.put h.put;
+  put = put_more old view before mid after g.heard h.heard g.followed.viewed g.put h.put;
 }
 
 -- the lines that have come are the first of those of the input
@@ -243,15 +263,15 @@ came_whole (Some xs) None past a end = absurd a
 came_whole (Some xs) (Some ys) past a end = ([], a ∙ ap (λ t. past ++ lines_of t) end, refl)
 
 -- all is written that they say
-up_to_date : (form : LineForm) (signal : List ℕ) (win : Windows) (timing : Bool) (known now before mid after : Option (List ℕ)) (f : AuditFollower) (number : ℕ) → (g : Going form signal win timing known now before mid f number) → Appends mid after []
-    → IsUpToDate form signal win timing g.past before after
-up_to_date form signal win timing known now before mid after f number g none = record {
+up_to_date : (form : LineForm) (signal : List ℕ) (win : Windows) (view : AuditView) (known now before mid after : Option (List ℕ)) (f : AuditFollower) (number : ℕ) → (g : Going form signal win view known now before mid f number) → Appends mid after []
+    → IsUpToDate form signal win view g.past before after
+up_to_date form signal win view known now before mid after f number g none = record {
   follower = f;
-  text = g.text;
-  followed = subst (λ n. IsFollowed form signal win timing g.past n f g.text) g.count g.followed;
+  heard = g.heard;
+  followed = subst (λ n. IsFollowed form signal win view g.past n f g.heard) g.count g.followed;
   prompt = g.prompt;
-  front = followed_front form signal win timing g.past number f g.text g.followed;
-  put = subst (λ t. Appends before after t) (append-nil g.text) (Appends-trans before mid after g.text [] g.put none);
+  front = followed_front form signal win view g.past number f g.heard g.followed;
+  put = subst (λ t. Appends before after t) (append-nil (lines_text view.written g.heard)) (Appends-trans before mid after (lines_text view.written g.heard) [] g.put none);
 }
 
 -- an input in a form, by its lines
@@ -279,73 +299,73 @@ refused_end form signal (Some xs) (Some ys) past fault a end refused =
     by_lines form signal xs ∙ ap (lines_captured form signal) (a ∙ ap (λ t. past ++ lines_of t) end ∙ append-nil past) ∙ refused
 
 -- a line that stops it
-abbrev line_begun : (form : LineForm) (signal : List ℕ) (win : Windows) (timing : Bool) (known now next before mid after : Option (List ℕ)) (old : AuditFollower) (number : ℕ) (line : List ℕ) → Going form signal win timing known now before mid old number
-    → Leads now next line → HasStopped signal number line old mid after → HasBegun form signal win timing known before after
-line_begun form signal win timing known now next before mid after old number line g leads h = record {
+abbrev line_begun : (form : LineForm) (signal : List ℕ) (win : Windows) (view : AuditView) (known now next before mid after : Option (List ℕ)) (old : AuditFollower) (number : ℕ) (line : List ℕ) → Going form signal win view known now before mid old number
+    → Leads now next line → HasStopped signal number line old mid after → HasBegun form signal win view known before after
+line_begun form signal win view known now next before mid after old number line g leads h = record {
   past = g.past ++ line ∷ [];
   more = true;
   came = came_some known next (g.past ++ line ∷ []) (come_more known now next g.past line g.come leads);
-  text = g.text ++ h.text;
-  front = h.front form win timing g.past g.text g.followed;
-  put = Appends-trans before mid after g.text h.text g.put h.put;
+  text = lines_text view.written g.heard ++ h.text;
+  front = h.front form win view g.past g.heard g.followed;
+  put = Appends-trans before mid after (lines_text view.written g.heard) h.text g.put h.put;
 }
 
-pub line_stops : (form : LineForm) (signal : List ℕ) (win : Windows) (timing : Bool) (known now next before mid after : Option (List ℕ)) (old new : AuditFollower) (number : ℕ) (line : List ℕ) (error : FollowAuditError)
-    → Going form signal win timing known now before mid old number → Leads now next line → Hears signal number line old new mid after (Err error) → Follows form signal win timing known before after (Err error)
-line_stops form signal win timing known now next before mid after old new number line (Capture fault) g leads h = record {
+pub line_stops : (form : LineForm) (signal : List ℕ) (win : Windows) (view : AuditView) (known now next before mid after : Option (List ℕ)) (old new : AuditFollower) (number : ℕ) (line : List ℕ) (error : FollowAuditError)
+    → Going form signal win view known now before mid old number → Leads now next line → Hears signal number line old new mid after (Err error) → Follows form signal win view known before after (Err error)
+line_stops form signal win view known now next before mid after old new number line (Capture fault) g leads h = record {
   past = g.past;
   next = Some line;
   came = came_first known next (g.past ++ line ∷ []) (come_more known now next g.past line g.come leads);
   place = h.place ∙ g.count;
-  refused = h.refused form win timing g.past g.text g.followed;
-  read = refused_line form signal known now next g.past line fault g.come leads (h.refused form win timing g.past g.text g.followed);
-  written = up_to_date form signal win timing known now before mid after old number g h.put;
+  refused = h.refused form win view g.past g.heard g.followed;
+  read = refused_line form signal known now next g.past line fault g.come leads (h.refused form win view g.past g.heard g.followed);
+  written = up_to_date form signal win view known now before mid after old number g h.put;
 }
-line_stops form signal win timing known now next before mid after old new number line (Write count) g leads h = line_begun form signal win timing known now next before mid after old number line g leads h
-line_stops form signal win timing known now next before mid after old new number line Waiting g leads h =
+line_stops form signal win view known now next before mid after old new number line (Write count) g leads h = line_begun form signal win view known now next before mid after old number line g leads h
+line_stops form signal win view known now next before mid after old new number line Waiting g leads h =
     record {
-      begun = line_begun form signal win timing known now next before mid after old number line g leads h.0;
-      two = let two = h.1 form win timing g.past g.text g.followed in subst (λ n. BeginsWithTwo form signal win (g.past ++ line ∷ []) n) (count_more g.past line number g.count) two;
+      begun = line_begun form signal win view known now next before mid after old number line g leads h.0;
+      two = let two = h.1 form win view g.past g.heard g.followed in subst (λ n. BeginsWithTwo form signal win (g.past ++ line ∷ []) n) (count_more g.past line number g.count) two;
     }
-line_stops form signal win timing known now next before mid after old new number line Memory g leads h = line_begun form signal win timing known now next before mid after old number line g leads h
-line_stops form signal win timing known now next before mid after old new number line Read g leads h = absurd h
-line_stops form signal win timing known now next before mid after old new number line TooLong g leads h = absurd h
+line_stops form signal win view known now next before mid after old new number line Memory g leads h = line_begun form signal win view known now next before mid after old number line g leads h
+line_stops form signal win view known now next before mid after old new number line Read g leads h = absurd h
+line_stops form signal win view known now next before mid after old new number line TooLong g leads h = absurd h
 
 -- nothing more is read
-reading_stops : (form : LineForm) (signal : List ℕ) (win : Windows) (timing : Bool) (known now before after : Option (List ℕ)) (f : AuditFollower) (number : ℕ) → Going form signal win timing known now before after f number
-    → Follows form signal win timing known before after (Err Read)
-reading_stops form signal win timing known now before after f number g = record {
+reading_stops : (form : LineForm) (signal : List ℕ) (win : Windows) (view : AuditView) (known now before after : Option (List ℕ)) (f : AuditFollower) (number : ℕ) → Going form signal win view known now before after f number
+    → Follows form signal win view known before after (Err Read)
+reading_stops form signal win view known now before after f number g = record {
   past = g.past;
   came = came_first known now g.past g.come;
-  written = up_to_date form signal win timing known now before after after f number g (Appends-nil after);
+  written = up_to_date form signal win view known now before after after f number g (Appends-nil after);
 }
 
 -- a line is too long
-length_stops : (too_long : LongLinesAreTooMuch) (form : LineForm) (signal : List ℕ) (win : Windows) (timing : Bool) (known now next before after : Option (List ℕ)) (f : AuditFollower) (number : ℕ) (line : List ℕ)
-    → Going form signal win timing known now before after f number → IsNext now next line (Err line_fault.TooLong) → Follows form signal win timing known before after (Err TooLong)
-length_stops too_long form signal win timing known now next before after f number line g h = record {
+length_stops : (too_long : LongLinesAreTooMuch) (form : LineForm) (signal : List ℕ) (win : Windows) (view : AuditView) (known now next before after : Option (List ℕ)) (f : AuditFollower) (number : ℕ) (line : List ℕ)
+    → Going form signal win view known now before after f number → IsNext now next line (Err line_fault.TooLong) → Follows form signal win view known before after (Err TooLong)
+length_stops too_long form signal win view known now next before after f number line g h = record {
   past = g.past;
   over = too_long known now next g.past line g.come h;
-  written = up_to_date form signal win timing known now before after after f number g (Appends-nil after);
+  written = up_to_date form signal win view known now before after after f number g (Appends-nil after);
 }
 
 -- no line could be read
-pub line_fails : (too_long : LongLinesAreTooMuch) (form : LineForm) (signal : List ℕ) (win : Windows) (timing : Bool) (known now next before after : Option (List ℕ)) (f : AuditFollower) (number : ℕ) (line : List ℕ) (fault : IncomingFault)
-    → Going form signal win timing known now before after f number → IsNext now next line (Err fault) → Follows form signal win timing known before after (Err (line_error fault))
-line_fails too_long form signal win timing known now next before after f number line line_fault.Read g h = reading_stops form signal win timing known now before after f number g
-line_fails too_long form signal win timing known now next before after f number line line_fault.TooLong g h = length_stops too_long form signal win timing known now next before after f number line g h
+pub line_fails : (too_long : LongLinesAreTooMuch) (form : LineForm) (signal : List ℕ) (win : Windows) (view : AuditView) (known now next before after : Option (List ℕ)) (f : AuditFollower) (number : ℕ) (line : List ℕ) (fault : IncomingFault)
+    → Going form signal win view known now before after f number → IsNext now next line (Err fault) → Follows form signal win view known before after (Err (line_error fault))
+line_fails too_long form signal win view known now next before after f number line line_fault.Read g h = reading_stops form signal win view known now before after f number g
+line_fails too_long form signal win view known now next before after f number line line_fault.TooLong g h = length_stops too_long form signal win view known now next before after f number line g h
 
 pub line_handed : (fault : IncomingFault) (error : FollowAuditError) (pending : List ℕ) → error ≡ line_error fault → pending ≡ [] → IsHandedOn error pending
 line_handed line_fault.Read error pending is none = subst (λ (e : FollowAuditError). IsHandedOn e pending) (sym is) none
 line_handed line_fault.TooLong error pending is none = subst (λ (e : FollowAuditError). IsHandedOn e pending) (sym is) none
 
 -- as many lines as are counted
-pub lines_run_out : (form : LineForm) (signal : List ℕ) (win : Windows) (timing : Bool) (known now before after : Option (List ℕ)) (f : AuditFollower) (number : ℕ) → Going form signal win timing known now before after f number
-    → number ≡ 18446744073709551615 + 1 → Follows form signal win timing known before after (Err TooLong)
-lines_run_out form signal win timing known now before after f number g last = record {
+pub lines_run_out : (form : LineForm) (signal : List ℕ) (win : Windows) (view : AuditView) (known now before after : Option (List ℕ)) (f : AuditFollower) (number : ℕ) → Going form signal win view known now before after f number
+    → number ≡ 18446744073709551615 + 1 → Follows form signal win view known before after (Err TooLong)
+lines_run_out form signal win view known now before after f number g last = record {
   past = g.past;
   over = inr (let count = g.count in omega (arith, count, last), came_first known now g.past g.come);
-  written = up_to_date form signal win timing known now before after after f number g (Appends-nil after);
+  written = up_to_date form signal win view known now before after after f number g (Appends-nil after);
 }
 
 -- no line is left
@@ -355,40 +375,41 @@ input_of form None now past a whole end = (text_of_lines past, tt, lines_again p
 input_of form (Some xs) None past a whole end = absurd a
 input_of form (Some xs) (Some ys) past a whole end = (xs, refl, a ∙ ap (λ t. past ++ lines_of t) end ∙ append-nil past)
 
-end_begun : (form : LineForm) (signal : List ℕ) (win : Windows) (timing : Bool) (known now before mid after : Option (List ℕ)) (f : AuditFollower) (number : ℕ) → Going form signal win timing known now before mid f number → IsAtEnd now
-    → HasCut number f mid after → HasBegun form signal win timing known before after
-end_begun form signal win timing known now before mid after f number g end h = record {
+end_begun : (form : LineForm) (signal : List ℕ) (win : Windows) (view : AuditView) (known now before mid after : Option (List ℕ)) (f : AuditFollower) (number : ℕ) → Going form signal win view known now before mid f number → IsAtEnd now
+    → HasCut number f mid after → HasBegun form signal win view known before after
+end_begun form signal win view known now before mid after f number g end h = record {
   past = g.past;
   more = false;
   came = came_whole known now g.past g.come end;
-  text = g.text ++ h.text;
-  front = h.front form signal win timing g.past g.text g.followed;
-  put = Appends-trans before mid after g.text h.text g.put h.put;
+  text = lines_text view.written g.heard ++ h.text;
+  front = h.front form signal win view g.past g.heard g.followed;
+  put = Appends-trans before mid after (lines_text view.written g.heard) h.text g.put h.put;
 }
 
-pub end_stops : (form : LineForm) (signal : List ℕ) (win : Windows) (timing : Bool) (known now before mid after : Option (List ℕ)) (f : AuditFollower) (number : ℕ) (result : Result (Unit {0}) FollowAuditError)
-    → Going form signal win timing known now before mid f number → IsAtEnd now → Ends number f mid after result → Follows form signal win timing known before after result
-end_stops form signal win timing known now before mid after f number (Ok done) g end h =
-    let all = h.all form signal win timing g.past g.text g.followed in
+pub end_stops : (form : LineForm) (signal : List ℕ) (win : Windows) (view : AuditView) (known now before mid after : Option (List ℕ)) (f : AuditFollower) (number : ℕ) (result : Result Bool FollowAuditError)
+    → Going form signal win view known now before mid f number → IsAtEnd now → Ends number f mid after result → Follows form signal win view known before after result
+end_stops form signal win view known now before mid after f number (Ok is) g end h =
+    let all = h.all form signal win view g.past g.heard g.followed in
     let input = input_of form known now g.past g.come g.whole end in
     record {
       input = input.0;
       all = input.1;
       capture = all.capture;
       read = by_lines form signal input.0 ∙ ap (lines_captured form signal) input.2 ∙ all.read;
-      put = subst (λ t. Appends before after t) (sym all.all) (Appends-trans before mid after g.text h.text g.put h.put);
+      put = subst (λ (ls : List AuditLine). Appends before after (lines_text view.written ls)) (sym all.all) (put_more f view before mid after g.heard h.heard g.followed.viewed g.put h.put);
+      noted = both_found false f.remarked is g.heard h.heard g.followed.noted h.noted ∙ ap has_remark (sym all.all);
     }
-end_stops form signal win timing known now before mid after f number (Err (Capture fault)) g end h = record {
+end_stops form signal win view known now before mid after f number (Err (Capture fault)) g end h = record {
   past = g.past;
   next = None;
   came = came_all known now g.past g.come end;
   place = h.place ∙ g.count;
-  refused = h.refused form signal win timing g.past g.text g.followed;
-  read = refused_end form signal known now g.past fault g.come end (h.refused form signal win timing g.past g.text g.followed);
-  written = up_to_date form signal win timing known now before mid after f number g h.put;
+  refused = h.refused form signal win view g.past g.heard g.followed;
+  read = refused_end form signal known now g.past fault g.come end (h.refused form signal win view g.past g.heard g.followed);
+  written = up_to_date form signal win view known now before mid after f number g h.put;
 }
-end_stops form signal win timing known now before mid after f number (Err (Write count)) g end h = end_begun form signal win timing known now before mid after f number g end h
-end_stops form signal win timing known now before mid after f number (Err Waiting) g end h = absurd h
-end_stops form signal win timing known now before mid after f number (Err Memory) g end h = end_begun form signal win timing known now before mid after f number g end h
-end_stops form signal win timing known now before mid after f number (Err Read) g end h = absurd h
-end_stops form signal win timing known now before mid after f number (Err TooLong) g end h = absurd h
+end_stops form signal win view known now before mid after f number (Err (Write count)) g end h = end_begun form signal win view known now before mid after f number g end h
+end_stops form signal win view known now before mid after f number (Err Waiting) g end h = absurd h
+end_stops form signal win view known now before mid after f number (Err Memory) g end h = end_begun form signal win view known now before mid after f number g end h
+end_stops form signal win view known now before mid after f number (Err Read) g end h = absurd h
+end_stops form signal win view known now before mid after f number (Err TooLong) g end h = absurd h

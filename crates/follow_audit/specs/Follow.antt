@@ -1,6 +1,6 @@
 -- What is written of a capture as its lines come, with what there is to remark: at each moment the front of the audit of the whole,
 -- whatever comes later (own).
-use Rattle.std.specs.Prelude.{◌≡◌, ℕ, ◌+◌, ◌≤◌, Bool, true, false, List, [], ◌∷◌, ◌++◌, length, Option, IfErr, IfSome, Result, Ok, Err}
+use Rattle.std.specs.Prelude.{◌≡◌, ℕ, ◌+◌, ◌≤◌, Bool, true, false, List, [], ◌∷◌, ◌++◌, ◌||◌, length, Option, IfErr, IfSome, Result, Ok, Err}
 use Rattle.std.specs.Io.KnownBytes.{Appends}
 use Rattle.std.specs.Option.{option_to_list}
 use Rattle.text_core.specs.Lines.{lines_of}
@@ -12,7 +12,8 @@ use Rattle.capture_core.specs.Edges.{Captured, line_of_edges}
 use Rattle.capture_core.specs.Reading.{with_edges}
 use Rattle.capture_core.specs.declared.fault.Cause.{Cause}
 use Rattle.capture_monitor.specs.Watch.{captured_by}
-use Rattle.audit_core.specs.Audit.{audit_text_of}
+use Rattle.audit_core.specs.Audit.{audit_lines}
+use Rattle.audit_notes.specs.Lines.{AuditLine, has_remark, lines_text}
 use Rattle.capture_forms.specs.Captures.{capture_in}
 use Rattle.follow_core.specs.Follow.{AreLeft, StopsAtFault, StopsAtLength, StopsAtRead}
 use Rattle.live_incoming.specs.declared.incoming.IncomingFault.{IncomingFault}
@@ -21,26 +22,31 @@ use Rattle.follow_core.specs.Lines.{IsEarly, form_as, from_of, lines_captured, l
 use Rattle.follow_core.specs.Teller.{IsTold, IsToldEarly, NoneBefore}
 use Rattle.follow_core.specs.declared.lines.CaptureLines.{CaptureLines}
 use Rattle.follow_core.specs.declared.lines.LineForm.{LineForm}
-use Rattle.follow_audit.specs.Listener.{IsAudited, SaysAllKnown}
+use Rattle.follow_audit.specs.Listener.{IsAudited, SaysAllKnown, audit_text}
 use Rattle.follow_audit.specs.Settled.{TwoWait}
 use Rattle.follow_audit.specs.declared.error.FollowAuditError.{FollowAuditError}
 use Rattle.follow_audit.specs.declared.error.FollowAuditError.TheVariants.{Capture, Memory, Read, TooLong, Waiting, Write}
 use Rattle.follow_audit.specs.declared.follower.AuditFollower.{AuditFollower}
+use Rattle.follow_audit.specs.declared.view.AuditView.{AuditView}
 
--- the audit of a whole capture
-abbrev pub text_of : Bool → Windows → Captured → List ℕ
-text_of timing windows c = audit_text_of timing c (captured_by windows c)
+-- the audit of a whole capture: its lines, and what is written of them
+abbrev pub lines_in : AuditView → Windows → Captured → List AuditLine
+lines_in view windows c = audit_lines view.timing c (captured_by windows c)
+
+abbrev pub text_of : AuditView → Windows → Captured → List ℕ
+text_of view windows c = audit_text view c (captured_by windows c)
 
 -- ---- a follower
 
--- Of a capture these lines came, before the one of this number, and this text was written: whatever comes later, this is the audit
--- of the readings that have ended.
-pub record IsFollowed (form : LineForm) (signal : List ℕ) (windows : Windows) (timing : Bool) (past : List (List ℕ)) (number : ℕ) (f : AuditFollower) (text : List ℕ) : Type 0 where
+-- Of a capture these lines came, before the one of this number, and these of the audit were heard: whatever comes later, they are the
+-- audit of the readings that have ended; and it is known whether one of them is a remark.
+pub record IsFollowed (form : LineForm) (signal : List ℕ) (windows : Windows) (view : AuditView) (past : List (List ℕ)) (number : ℕ) (f : AuditFollower) (heard : List AuditLine) : Type 0 where
   pub edges : List Edge
-  pub timed : f.listener.timing ≡ timing
+  pub viewed : f.listener.view ≡ view
+  pub noted : f.remarked ≡ has_remark heard
   pub read : (rest : List (List ℕ)) → lines_captured form signal (past ++ rest) ≡ with_edges edges (lines_left signal f.lines number rest)
   pub told : (rest : List (List ℕ)) (c : Captured) → lines_left signal f.lines number rest ≡ Ok c
-      → (ended : List Listed) × IsTold windows f.teller (line_of_edges (edges ++ c.edges)) c.edges c.end ended × IsAudited (edges ++ c.edges) f.listener c.edges ended text
+      → (ended : List Listed) × IsTold windows f.teller (line_of_edges (edges ++ c.edges)) c.edges c.end ended × IsAudited (edges ++ c.edges) f.listener c.edges ended heard
 
 -- all is told that the lines say, and all is written that is known
 abbrev pub IsPrompt : AuditFollower → Type 0
@@ -51,35 +57,36 @@ IsReady f = IsEarly f.lines × IsToldEarly f.teller
 
 -- ---- what goes on after an edge
 
--- before an edge, if there is one, with which it goes on: what was told, and what is written
-pub record IsAt (windows : Windows) (f : AuditFollower) (all left : List Edge) (end : ℕ) (text : List ℕ) : Type 0 where
+-- before an edge, if there is one, with which it goes on: what was told, and what was heard
+pub record IsAt (windows : Windows) (f : AuditFollower) (all left : List Edge) (end : ℕ) (heard : List AuditLine) : Type 0 where
   pub ended : List Listed
   pub told : IsTold windows f.teller (line_of_edges all) left end ended
-  pub audited : IsAudited all f.listener left ended text
+  pub audited : IsAudited all f.listener left ended heard
 
 -- this text is a front of the audit of a capture
-abbrev pub IsFrontOfAll : Windows → Bool → List Edge → ℕ → List ℕ → Type 0
-IsFrontOfAll windows timing all end text = (rest : List ℕ) × (text_of timing windows (record { edges = all; end = end }) ≡ text ++ rest)
+abbrev pub IsFrontOfAll : Windows → AuditView → List Edge → ℕ → List ℕ → Type 0
+IsFrontOfAll windows view all end text = (rest : List ℕ) × (text_of view windows (record { edges = all; end = end }) ≡ text ++ rest)
 
 pub record GoesOn (old : AuditFollower) (edge : Option Edge) (new : AuditFollower) (before after : Option (List ℕ)) : Type 0 where
-  pub text : List ℕ
-  pub put : Appends before after text
+  pub heard : List AuditLine
+  pub put : Appends before after (lines_text old.listener.view.written heard)
   pub lines : new.lines ≡ old.lines
-  pub timing : new.listener.timing ≡ old.listener.timing
-  pub goes : (windows : Windows) (all left : List Edge) (end : ℕ) (so_far : List ℕ) → NoneBefore (from_of old.lines) left → from_of old.lines ≤ end + 1
-      → IsAt windows old all (option_to_list edge ++ left) end so_far → IsAt windows new all left end (so_far ++ text)
+  pub view : new.listener.view ≡ old.listener.view
+  pub noted : new.remarked ≡ (old.remarked || has_remark heard)
+  pub goes : (windows : Windows) (all left : List Edge) (end : ℕ) (so_far : List AuditLine) → NoneBefore (from_of old.lines) left → from_of old.lines ≤ end + 1
+      → IsAt windows old all (option_to_list edge ++ left) end so_far → IsAt windows new all left end (so_far ++ heard)
 
 pub record GoesTo (old : AuditFollower) (edge : Option Edge) (before after : Option (List ℕ)) : Type 0 where
   pub text : List ℕ
   pub put : Appends before after text
-  pub front : (windows : Windows) (all left : List Edge) (end : ℕ) (so_far : List ℕ) → NoneBefore (from_of old.lines) left → from_of old.lines ≤ end + 1
-      → IsAt windows old all (option_to_list edge ++ left) end so_far → IsFrontOfAll windows old.listener.timing all end (so_far ++ text)
+  pub front : (windows : Windows) (all left : List Edge) (end : ℕ) (so_far : List AuditLine) → NoneBefore (from_of old.lines) left → from_of old.lines ≤ end + 1
+      → IsAt windows old all (option_to_list edge ++ left) end so_far → IsFrontOfAll windows old.listener.view all end (lines_text old.listener.view.written so_far ++ text)
 
 -- by this edge two readings wait, whatever comes later
 pub record EndsTwo (old : AuditFollower) (edge : Option Edge) : Type 0 where
   pub first : Listed
   pub second : Listed
-  pub wait : (windows : Windows) (come left : List Edge) (end : ℕ) (so_far : List ℕ) → NoneBefore (from_of old.lines) left → from_of old.lines ≤ end + 1
+  pub wait : (windows : Windows) (come left : List Edge) (end : ℕ) (so_far : List AuditLine) → NoneBefore (from_of old.lines) left → from_of old.lines ≤ end + 1
       → IsAt windows old (come ++ left) (option_to_list edge ++ left) end so_far → TwoWait come first second (captured_by windows (record { edges = come ++ left; end = end }))
 
 -- neither a fault of a line nor of a reader, nor that more came than is followed
@@ -96,16 +103,17 @@ Goes old edge new before after (Ok done) = GoesOn old edge new before after
 Goes old edge new before after (Err error) = GoesTo old edge before after × IsOfGoing old edge error
 
 -- the last edge and the end
-pub record GoesLast (old : AuditFollower) (edge : Option Edge) (end : ℕ) (before after : Option (List ℕ)) : Type 0 where
-  pub text : List ℕ
-  pub put : Appends before after text
-  pub whole : (windows : Windows) (all : List Edge) (so_far : List ℕ) → IsAt windows old all (option_to_list edge) end so_far
-      → text_of old.listener.timing windows (record { edges = all; end = end }) ≡ so_far ++ text
+pub record GoesLast (old : AuditFollower) (edge : Option Edge) (end : ℕ) (is : Bool) (before after : Option (List ℕ)) : Type 0 where
+  pub heard : List AuditLine
+  pub put : Appends before after (lines_text old.listener.view.written heard)
+  pub noted : is ≡ (old.remarked || has_remark heard)
+  pub whole : (windows : Windows) (all : List Edge) (so_far : List AuditLine) → IsAt windows old all (option_to_list edge) end so_far
+      → lines_in old.listener.view windows (record { edges = all; end = end }) ≡ so_far ++ heard
 
 pub record GoesCut (old : AuditFollower) (edge : Option Edge) (end : ℕ) (before after : Option (List ℕ)) : Type 0 where
   pub text : List ℕ
   pub put : Appends before after text
-  pub front : (windows : Windows) (all : List Edge) (so_far : List ℕ) → IsAt windows old all (option_to_list edge) end so_far → IsFrontOfAll windows old.listener.timing all end (so_far ++ text)
+  pub front : (windows : Windows) (all : List Edge) (so_far : List AuditLine) → IsAt windows old all (option_to_list edge) end so_far → IsFrontOfAll windows old.listener.view all end (lines_text old.listener.view.written so_far ++ text)
 
 -- nor that two wait
 abbrev pub IsOfEnding : FollowAuditError → Type 0
@@ -116,16 +124,16 @@ IsOfEnding (Capture fault) = ⊥
 IsOfEnding Read = ⊥
 IsOfEnding TooLong = ⊥
 
-abbrev pub GoesEnd : AuditFollower → Option Edge → ℕ → Option (List ℕ) → Option (List ℕ) → Result (Unit {0}) FollowAuditError → Type 0
-GoesEnd old edge end before after (Ok done) = GoesLast old edge end before after
+abbrev pub GoesEnd : AuditFollower → Option Edge → ℕ → Option (List ℕ) → Option (List ℕ) → Result Bool FollowAuditError → Type 0
+GoesEnd old edge end before after (Ok is) = GoesLast old edge end is before after
 GoesEnd old edge end before after (Err error) = GoesCut old edge end before after × IsOfEnding error
 
 -- ---- lines
 
 -- Whatever comes after these lines, where some may come, this text is a front of the audit of the capture.
-abbrev pub IsFront : Bool → LineForm → List ℕ → Windows → Bool → List (List ℕ) → List ℕ → Type 0
-IsFront more form signal windows timing past text = (rest : List (List ℕ)) (c : Captured) → AreLeft more rest → lines_captured form signal (past ++ rest) ≡ Ok c
-    → (left : List ℕ) × (text_of timing windows c ≡ text ++ left)
+abbrev pub IsFront : Bool → LineForm → List ℕ → Windows → AuditView → List (List ℕ) → List ℕ → Type 0
+IsFront more form signal windows view past text = (rest : List (List ℕ)) (c : Captured) → AreLeft more rest → lines_captured form signal (past ++ rest) ≡ Ok c
+    → (left : List ℕ) × (text_of view windows c ≡ text ++ left)
 
 -- By the edges that these lines say, before the one of this number, two readings wait: both are of each capture that begins so.
 pub record BeginsWithTwo (form : LineForm) (signal : List ℕ) (windows : Windows) (past : List (List ℕ)) (number : ℕ) : Type 0 where
@@ -138,29 +146,29 @@ pub record BeginsWithTwo (form : LineForm) (signal : List ℕ) (windows : Window
 
 -- a line has come, and what there is to say by it is written
 pub record HasHeard (signal : List ℕ) (number : ℕ) (line : List ℕ) (old new : AuditFollower) (before after : Option (List ℕ)) : Type 0 where
-  pub text : List ℕ
-  pub put : Appends before after text
-  pub followed : (form : LineForm) (windows : Windows) (timing : Bool) (past : List (List ℕ)) (so_far : List ℕ) → IsFollowed form signal windows timing past number old so_far
-      → IsFollowed form signal windows timing (past ++ line ∷ []) (number + 1) new (so_far ++ text)
+  pub heard : List AuditLine
+  pub put : Appends before after (lines_text old.listener.view.written heard)
+  pub followed : (form : LineForm) (windows : Windows) (view : AuditView) (past : List (List ℕ)) (so_far : List AuditLine) → IsFollowed form signal windows view past number old so_far
+      → IsFollowed form signal windows view (past ++ line ∷ []) (number + 1) new (so_far ++ heard)
   pub prompt : IsPrompt new
 
 -- it is at fault, and nothing is written
 pub record IsAtFault (signal : List ℕ) (number : ℕ) (line : List ℕ) (old : AuditFollower) (before after : Option (List ℕ)) (fault : At Cause) : Type 0 where
   pub put : Appends before after []
   pub place : fault.line ≡ number
-  pub refused : (form : LineForm) (windows : Windows) (timing : Bool) (past : List (List ℕ)) (so_far : List ℕ) → IsFollowed form signal windows timing past number old so_far
+  pub refused : (form : LineForm) (windows : Windows) (view : AuditView) (past : List (List ℕ)) (so_far : List AuditLine) → IsFollowed form signal windows view past number old so_far
       → (rest : List (List ℕ)) → lines_captured form signal (past ++ line ∷ rest) ≡ Err fault
 
 -- or not all is written
 pub record HasStopped (signal : List ℕ) (number : ℕ) (line : List ℕ) (old : AuditFollower) (before after : Option (List ℕ)) : Type 0 where
   pub text : List ℕ
   pub put : Appends before after text
-  pub front : (form : LineForm) (windows : Windows) (timing : Bool) (past : List (List ℕ)) (so_far : List ℕ) → IsFollowed form signal windows timing past number old so_far
-      → IsFront true form signal windows timing (past ++ line ∷ []) (so_far ++ text)
+  pub front : (form : LineForm) (windows : Windows) (view : AuditView) (past : List (List ℕ)) (so_far : List AuditLine) → IsFollowed form signal windows view past number old so_far
+      → IsFront true form signal windows view (past ++ line ∷ []) (lines_text view.written so_far ++ text)
 
 -- by this line two readings wait
 abbrev pub HearsTwo : List ℕ → ℕ → List ℕ → AuditFollower → Type 0
-HearsTwo signal number line old = (form : LineForm) (windows : Windows) (timing : Bool) (past : List (List ℕ)) (so_far : List ℕ) → IsFollowed form signal windows timing past number old so_far
+HearsTwo signal number line old = (form : LineForm) (windows : Windows) (view : AuditView) (past : List (List ℕ)) (so_far : List AuditLine) → IsFollowed form signal windows view past number old so_far
     → BeginsWithTwo form signal windows (past ++ line ∷ []) (number + 1)
 
 abbrev pub Hears : List ℕ → ℕ → List ℕ → AuditFollower → AuditFollower → Option (List ℕ) → Option (List ℕ) → Result (Unit {0}) FollowAuditError → Type 0
@@ -173,33 +181,34 @@ Hears signal number line old new before after (Err Read) = ⊥
 Hears signal number line old new before after (Err TooLong) = ⊥
 
 -- no line is left: the audit of the whole is written
-pub record IsWhole (form : LineForm) (signal : List ℕ) (windows : Windows) (timing : Bool) (lines : List (List ℕ)) (text : List ℕ) : Type 0 where
+pub record IsWhole (form : LineForm) (signal : List ℕ) (windows : Windows) (view : AuditView) (lines : List (List ℕ)) (heard : List AuditLine) : Type 0 where
   pub capture : Captured
   pub read : lines_captured form signal lines ≡ Ok capture
-  pub all : text_of timing windows capture ≡ text
+  pub all : lines_in view windows capture ≡ heard
 
-pub record HasWritten (number : ℕ) (f : AuditFollower) (before after : Option (List ℕ)) : Type 0 where
-  pub text : List ℕ
-  pub put : Appends before after text
-  pub all : (form : LineForm) (signal : List ℕ) (windows : Windows) (timing : Bool) (past : List (List ℕ)) (so_far : List ℕ) → IsFollowed form signal windows timing past number f so_far
-      → IsWhole form signal windows timing past (so_far ++ text)
+pub record HasWritten (number : ℕ) (f : AuditFollower) (is : Bool) (before after : Option (List ℕ)) : Type 0 where
+  pub heard : List AuditLine
+  pub put : Appends before after (lines_text f.listener.view.written heard)
+  pub noted : is ≡ (f.remarked || has_remark heard)
+  pub all : (form : LineForm) (signal : List ℕ) (windows : Windows) (view : AuditView) (past : List (List ℕ)) (so_far : List AuditLine) → IsFollowed form signal windows view past number f so_far
+      → IsWhole form signal windows view past (so_far ++ heard)
 
 -- or the end is missing
 pub record LacksEnd (number : ℕ) (f : AuditFollower) (before after : Option (List ℕ)) (fault : At Cause) : Type 0 where
   pub put : Appends before after []
   pub place : fault.line ≡ number
-  pub refused : (form : LineForm) (signal : List ℕ) (windows : Windows) (timing : Bool) (past : List (List ℕ)) (so_far : List ℕ) → IsFollowed form signal windows timing past number f so_far
+  pub refused : (form : LineForm) (signal : List ℕ) (windows : Windows) (view : AuditView) (past : List (List ℕ)) (so_far : List AuditLine) → IsFollowed form signal windows view past number f so_far
       → lines_captured form signal past ≡ Err fault
 
 -- or not all is written
 pub record HasCut (number : ℕ) (f : AuditFollower) (before after : Option (List ℕ)) : Type 0 where
   pub text : List ℕ
   pub put : Appends before after text
-  pub front : (form : LineForm) (signal : List ℕ) (windows : Windows) (timing : Bool) (past : List (List ℕ)) (so_far : List ℕ) → IsFollowed form signal windows timing past number f so_far
-      → IsFront false form signal windows timing past (so_far ++ text)
+  pub front : (form : LineForm) (signal : List ℕ) (windows : Windows) (view : AuditView) (past : List (List ℕ)) (so_far : List AuditLine) → IsFollowed form signal windows view past number f so_far
+      → IsFront false form signal windows view past (lines_text view.written so_far ++ text)
 
-abbrev pub Ends : ℕ → AuditFollower → Option (List ℕ) → Option (List ℕ) → Result (Unit {0}) FollowAuditError → Type 0
-Ends number f before after (Ok done) = HasWritten number f before after
+abbrev pub Ends : ℕ → AuditFollower → Option (List ℕ) → Option (List ℕ) → Result Bool FollowAuditError → Type 0
+Ends number f before after (Ok is) = HasWritten number f is before after
 Ends number f before after (Err (Capture fault)) = LacksEnd number f before after fault
 Ends number f before after (Err (Write count)) = HasCut number f before after
 Ends number f before after (Err Waiting) = ⊥
@@ -209,45 +218,46 @@ Ends number f before after (Err TooLong) = ⊥
 
 -- ---- an input
 
--- the audit of the capture that an input spells is written, and nothing else
-pub record HasFollowed (form : LineForm) (signal : List ℕ) (windows : Windows) (timing : Bool) (known old new : Option (List ℕ)) : Type 0 where
+-- the audit of the capture that an input spells is written, and nothing else, and it is known whether one of its lines is a remark
+pub record HasFollowed (form : LineForm) (signal : List ℕ) (windows : Windows) (view : AuditView) (is : Bool) (known old new : Option (List ℕ)) : Type 0 where
   pub input : List ℕ
   pub all : IfSome known (λ text. input ≡ text)
   pub capture : Captured
   pub read : capture_in (form_as form) signal input ≡ Ok capture
-  pub put : Appends old new (text_of timing windows capture)
+  pub put : Appends old new (text_of view windows capture)
+  pub noted : is ≡ has_remark (lines_in view windows capture)
 
 -- All that these lines say is written, and nothing else: the front of the audit of each capture that begins so.
-pub record IsUpToDate (form : LineForm) (signal : List ℕ) (windows : Windows) (timing : Bool) (past : List (List ℕ)) (old new : Option (List ℕ)) : Type 0 where
+pub record IsUpToDate (form : LineForm) (signal : List ℕ) (windows : Windows) (view : AuditView) (past : List (List ℕ)) (old new : Option (List ℕ)) : Type 0 where
   pub follower : AuditFollower
-  pub text : List ℕ
-  pub followed : IsFollowed form signal windows timing past (length past + 1) follower text
+  pub heard : List AuditLine
+  pub followed : IsFollowed form signal windows view past (length past + 1) follower heard
   pub prompt : IsPrompt follower
-  pub front : IsFront true form signal windows timing past text
-  pub put : Appends old new text
+  pub front : IsFront true form signal windows view past (lines_text view.written heard)
+  pub put : Appends old new (lines_text view.written heard)
 
 -- lines of it have come, all of them or not, and a front of the audit is written
-pub record HasBegun (form : LineForm) (signal : List ℕ) (windows : Windows) (timing : Bool) (known old new : Option (List ℕ)) : Type 0 where
+pub record HasBegun (form : LineForm) (signal : List ℕ) (windows : Windows) (view : AuditView) (known old new : Option (List ℕ)) : Type 0 where
   pub past : List (List ℕ)
   pub more : Bool
   pub came : IfSome known (λ text. (rest : List (List ℕ)) × (lines_of text ≡ past ++ rest) × AreLeft more rest)
   pub text : List ℕ
-  pub front : IsFront more form signal windows timing past text
+  pub front : IsFront more form signal windows view past text
   pub put : Appends old new text
 
 -- the same where two readings wait
-pub record StopsAtTwo (form : LineForm) (signal : List ℕ) (windows : Windows) (timing : Bool) (known old new : Option (List ℕ)) : Type 0 where
-  pub begun : HasBegun form signal windows timing known old new
+pub record StopsAtTwo (form : LineForm) (signal : List ℕ) (windows : Windows) (view : AuditView) (known old new : Option (List ℕ)) : Type 0 where
+  pub begun : HasBegun form signal windows view known old new
   pub two : BeginsWithTwo form signal windows begun.past (length begun.past + 1)
 
-abbrev pub Follows : LineForm → List ℕ → Windows → Bool → Option (List ℕ) → Option (List ℕ) → Option (List ℕ) → Result (Unit {0}) FollowAuditError → Type 0
-Follows form signal windows timing known old new (Ok done) = HasFollowed form signal windows timing known old new
-Follows form signal windows timing known old new (Err (Capture fault)) = StopsAtFault form signal known fault (λ past. IsUpToDate form signal windows timing past old new)
-Follows form signal windows timing known old new (Err Read) = StopsAtRead known (λ past. IsUpToDate form signal windows timing past old new)
-Follows form signal windows timing known old new (Err TooLong) = StopsAtLength known (λ past. IsUpToDate form signal windows timing past old new)
-Follows form signal windows timing known old new (Err Waiting) = StopsAtTwo form signal windows timing known old new
-Follows form signal windows timing known old new (Err Memory) = HasBegun form signal windows timing known old new
-Follows form signal windows timing known old new (Err (Write count)) = HasBegun form signal windows timing known old new
+abbrev pub Follows : LineForm → List ℕ → Windows → AuditView → Option (List ℕ) → Option (List ℕ) → Option (List ℕ) → Result Bool FollowAuditError → Type 0
+Follows form signal windows view known old new (Ok is) = HasFollowed form signal windows view is known old new
+Follows form signal windows view known old new (Err (Capture fault)) = StopsAtFault form signal known fault (λ past. IsUpToDate form signal windows view past old new)
+Follows form signal windows view known old new (Err Read) = StopsAtRead known (λ past. IsUpToDate form signal windows view past old new)
+Follows form signal windows view known old new (Err TooLong) = StopsAtLength known (λ past. IsUpToDate form signal windows view past old new)
+Follows form signal windows view known old new (Err Waiting) = StopsAtTwo form signal windows view known old new
+Follows form signal windows view known old new (Err Memory) = HasBegun form signal windows view known old new
+Follows form signal windows view known old new (Err (Write count)) = HasBegun form signal windows view known old new
 
 -- of a fault of the capture nothing is held back
 abbrev pub IsHandedOn : FollowAuditError → List ℕ → Type 0
@@ -277,7 +287,7 @@ kind_of Waiting = Waiting
 kind_of Memory = Memory
 
 -- where nothing was held back before
-abbrev pub HoldsNothing : Result (Unit {0}) FollowAuditError → List ℕ → List ℕ → Type 0
+abbrev pub HoldsNothing : {A : Type 0} → Result A FollowAuditError → List ℕ → List ℕ → Type 0
 HoldsNothing result old new = IfErr result (λ error. old ≡ [] → IsHandedOn error new)
 
 -- why no line could be read

@@ -5,6 +5,7 @@ ghost use Rattle.line_reading.specs.Windows.{AreWindows};
 
 use crate::error::FollowAuditError;
 use crate::listener::Listener;
+use crate::view::AuditView;
 use capture_csv::csv_lines_go_on;
 use capture_monitor::edge_lines_go_on;
 use capture_pin::pin_lines_go_on;
@@ -20,15 +21,17 @@ pub(crate) struct AuditFollower {
     lines: CaptureLines,
     teller: Teller,
     listener: Listener,
+    /// Whether the standard has something of what was written otherwise.
+    remarked: bool,
 }
 
 impl AuditFollower {
     ghost use Rattle.follow_audit.specs.Follow.{Ends, Goes, GoesEnd, Hears, IsFollowed, IsPrompt, IsReady, LeavesAlone};
 
     /// A follower by these windows of a capture in this form, of which no line has come.
-    pub(crate) fn new(alloc: Global, form: LineForm, windows: Windows, timing: bool) -> Self
+    pub(crate) fn new(alloc: Global, form: LineForm, windows: Windows, view: AuditView) -> Self
         requires { AreWindows windows }
-        ensures followed { (signal : List ℕ) → IsFollowed form signal windows timing [] 1 result [] }
+        ensures followed { (signal : List ℕ) → IsFollowed form signal windows view [] 1 result [] }
         ensures prompt { IsPrompt result }
         ensures ready { IsReady result }
     {
@@ -39,7 +42,8 @@ impl AuditFollower {
         AuditFollower {
             lines: CaptureLines::new(form),
             teller: Teller::new(windows),
-            listener: Listener::new(alloc, timing),
+            listener: Listener::new(alloc, view),
+            remarked: false,
         }
     }
 
@@ -62,7 +66,10 @@ impl AuditFollower {
                 let first = self.teller.edge(edge);
                 let lines = self.lines;
                 let second = self.teller.calm(lines.from());
-                self.listener.tell(first, second, out)
+                let mut remarked = self.remarked;
+                let told = self.listener.tell(&mut remarked, first, second, out);
+                self.remarked = remarked;
+                told
             }
         }
     }
@@ -96,14 +103,14 @@ impl AuditFollower {
         }
     }
 
-    // Goes on with the last edge, if there is one, to the end.
+    // Goes on with the last edge, if there is one, to the end. Returns whether the standard has something of the audit otherwise.
     fn go_to_end<S: Sink>(
         self,
         alloc: Global,
         edge: Option<Edge>,
         end: u64,
         out: &mut S,
-    ) -> Result<(), FollowAuditError>
+    ) -> Result<bool, FollowAuditError>
         requires ready { IsReady self }
         requires early { IfSome edge (λ e. e.at ≤ latest_instant) }
         requires end { end ≤ latest_instant }
@@ -111,18 +118,19 @@ impl AuditFollower {
     {
         let mut teller = self.teller;
         let mut listener = self.listener;
+        let remarked = self.remarked;
         match listener.take(alloc, edge) {
             Err(_) => Err(FollowAuditError::Memory),
             Ok(()) => {
                 let first = teller.edge(edge);
                 let second = teller.end(end);
-                listener.finish(first, second, end, out)
+                listener.finish(remarked, first, second, end, out)
             }
         }
     }
 
-    /// No line is left: writes what is left to say, of the reading that is open at the end and of all of them too. This number is
-    /// that of the line after the last.
+    /// No line is left: writes what is left to say, of the reading that is open at the end and of all of them too, and returns
+    /// whether the standard has something of the audit otherwise. This number is that of the line after the last.
     ///
     /// # Errors
     ///
@@ -132,7 +140,7 @@ impl AuditFollower {
         alloc: Global,
         number: u64,
         out: &mut S,
-    ) -> Result<(), FollowAuditError>
+    ) -> Result<bool, FollowAuditError>
         requires ready { IsReady self }
         ensures ends { Ends number self (S.contents out.old) (S.contents out.new) result }
         ensures alone { IfErr result (λ error. LeavesAlone error out.old out.new) }

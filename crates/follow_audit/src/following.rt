@@ -7,6 +7,7 @@ ghost use Rattle.follow_audit.specs.Follow.{Ends, Follows, Hears, HoldsNothing, 
 
 use crate::error::FollowAuditError;
 use crate::follower::AuditFollower;
+use crate::view::AuditView;
 use arrayvec::ArrayVec;
 use follow_core::{LineForm, long_lines_are_too_much};
 use line_reading::Windows;
@@ -71,13 +72,13 @@ fn hear<S: Sink>(
     }
 }
 
-// No line is left: writes what is left to say.
+// No line is left: writes what is left to say. Returns whether the standard has something of the audit otherwise.
 fn finish<S: Sink>(
     follower: AuditFollower,
     alloc: Global,
     number: u64,
     out: &mut Buffered<S>,
-) -> Result<(), FollowAuditError>
+) -> Result<bool, FollowAuditError>
     requires ready { IsReady follower }
     ensures ends { Ends number follower (⟦<Buffered<S> as Sink>⟧.contents out.old) (⟦<Buffered<S> as Sink>⟧.contents out.new) result }
     ensures handed { OnOk result (pending out.new ≡ []) }
@@ -85,17 +86,18 @@ fn finish<S: Sink>(
 {
     match follower.end(alloc, number, out) {
         Err(error) => Err(stopped(error, out)),
-        Ok(()) => match out.flush() {
-            Ok(()) => Ok(()),
+        Ok(remarked) => match out.flush() {
+            Ok(()) => Ok(remarked),
             Err(fault) => Err(FollowAuditError::Write(fault.count)),
         },
     }
 }
 
 /// Follows a capture: reads it line by line, and writes each reading of the wire of a name, or of the first where that is empty, as
-/// soon as it is over by what has come, as these windows read it, and below it what there is to remark, as soon as the edges that have come say all of that; at the end what there is to
-/// say of all readings. What was written is handed on before the next line is read. At the end it has written what
-/// `audit_capture_by` writes of the whole; with `timing` the widths of each reading too.
+/// soon as it is over by what has come, as these windows read it, and below it what there is to remark, as soon as the edges that have
+/// come say all of that; at the end what there is to say of all readings. It hands on what was written before it reads the next line.
+/// At the end it has written the audit of the whole, as it is looked at: with the widths of each reading or without, its lines or
+/// their objects. It returns whether the standard has something of it otherwise.
 ///
 /// # Errors
 ///
@@ -107,12 +109,12 @@ pub fn follow_audit<R: Read, S: Sink>(
     form: LineForm,
     signal: &[u8],
     windows: Windows,
-    timing: bool,
+    view: AuditView,
     input: &mut R,
     out: &mut Buffered<S>,
-) -> Result<(), FollowAuditError>
+) -> Result<bool, FollowAuditError>
     requires { AreWindows windows }
-    ensures follows { Follows form signal.now windows timing (R.remaining input.old) (⟦<Buffered<S> as Sink>⟧.contents out.old) (⟦<Buffered<S> as Sink>⟧.contents out.new) result }
+    ensures follows { Follows form signal.now windows view (R.remaining input.old) (⟦<Buffered<S> as Sink>⟧.contents out.old) (⟦<Buffered<S> as Sink>⟧.contents out.new) result }
     ensures handed { OnOk result (pending out.new ≡ []) }
     ensures kept { HoldsNothing result (pending out.old) (pending out.new) }
 {
@@ -120,7 +122,7 @@ pub fn follow_audit<R: Read, S: Sink>(
     long_lines_are_too_much();
     let mut lines = Lines::new();
     let mut line = ArrayVec::new();
-    let mut follower = AuditFollower::new(alloc, form, windows, timing);
+    let mut follower = AuditFollower::new(alloc, form, windows, view);
     for read in 0..MOST_LINES {
         match lines.next(input, &mut line) {
             Err(fault) => return Err(line_error(fault)),

@@ -7,6 +7,8 @@ mod follower;
 mod following;
 mod listener;
 mod settled;
+mod view;
 
 pub use error::FollowAuditError;
 pub use following::follow_audit;
+pub use view::AuditView;

@@ -3,14 +3,14 @@ ghost use Rattle.std.specs.Prelude.{◌≡◌, [], ◌∷◌, ◌++◌, List, No
 ghost use Rattle.std.specs.Option.{option_to_list};
 ghost use Rattle.line_wave.specs.declared.Edge.{Edge as EdgeOf};
 ghost use Rattle.line_reading.specs.Reports.{listed_as};
-ghost use Rattle.text_core.specs.Adds.{Adds};
 
 use crate::error::FollowAuditError;
 use crate::settled::{edges_from, is_settled, later};
+use crate::view::AuditView;
 use audit_core::Auditor;
+use audit_notes::{LineHearer, LineWriter, Strict};
 use line_frames::Reading;
 use line_wave::Edge;
-use message_text::add_reading;
 use std::alloc::{AllocError, Global};
 use text_core::{Counted, Sink};
 
@@ -27,17 +27,16 @@ pub(crate) struct Listener {
     from: u64,
     /// The reading whose line is written, and of which it is not known yet what there is to remark.
     waiting: Option<Reading>,
-    /// Whether the widths of each reading are written.
-    timing: bool,
+    view: AuditView,
 }
 
 impl Listener {
-    ghost use Rattle.follow_audit.specs.Listener.{Finishes, HearsAll, IsAudited, Puts, Remarks, Says, SaysAllKnown, SaysLast, TakesEdge, WaitsForNothing, remarked, waiting_count};
+    ghost use Rattle.follow_audit.specs.Listener.{Finishes, HearsAll, IsAudited, Puts, Remarks, Says, SaysAllKnown, SaysEnd, SaysLast, TakesEdge, WaitsForNothing, remarks_of, waiting_count};
 
     /// Of a capture of which nothing has come.
-    pub(crate) fn new(alloc: Global, timing: bool) -> Self
+    pub(crate) fn new(alloc: Global, view: AuditView) -> Self
         ensures audited { (edges : List EdgeOf) → IsAudited edges result edges [] [] }
-        ensures timing { result.timing ≡ timing }
+        ensures view { result.view ≡ view }
         ensures none { result.waiting ≡ None }
     {
         Listener {
@@ -45,7 +44,7 @@ impl Listener {
             window: Vec::new(alloc),
             from: 0,
             waiting: None,
-            timing,
+            view,
         }
     }
 
@@ -84,11 +83,10 @@ impl Listener {
         }
     }
 
-    // Adds what there is to remark of the reading that waits, if one does.
-    #[tactic(auto, using(text_core::proofs::Adding::nothing))]
-    fn remark<S: Sink>(&mut self, out: &mut Counted<'_, S>)
+    // Has what there is to remark of the reading that waits heard, if one does.
+    fn remark<H: LineHearer>(&mut self, out: &mut H)
         ensures remarks { Remarks self.old self.new }
-        ensures written { Adds out.old out.new (remarked self.old) }
+        ensures heard { H.hears out.old (remarks_of self.old) out.new }
     {
         let Some(reading) = self.waiting.take() else {
             return;
@@ -96,7 +94,7 @@ impl Listener {
         self.from = later(self.from, reading.begin);
         let edges = edges_from(&self.window, self.from);
         self.auditor
-            .remark(out, &reading, edges.edges(), self.timing);
+            .remark(out, &reading, edges.edges(), self.view.timing);
     }
 
     // Whether the edges that have come say all that there is to remark of the reading that waits, if one does.
@@ -113,9 +111,9 @@ impl Listener {
         }
     }
 
-    // Adds that, where it is known.
-    fn settle<S: Sink>(&mut self, out: &mut Counted<'_, S>)
-        ensures says { Says self.old [] self.new out.old out.new }
+    // Has that heard, where it is known.
+    fn settle<H: LineHearer>(&mut self, out: &mut H)
+        ensures says { Says H.hears self.old [] self.new out.old out.new }
         ensures waits { SaysAllKnown self.new }
     {
         if !self.is_settled() {
@@ -124,12 +122,12 @@ impl Listener {
         self.remark(out);
     }
 
-    // Adds the line of a reading that has ended, where nothing waits: it waits then.
-    fn add_line<S: Sink>(&mut self, out: &mut Counted<'_, S>, reading: Reading)
+    // Has the line of a reading that has ended heard, where nothing waits: it waits then.
+    fn hear_line<H: LineHearer>(&mut self, out: &mut H, reading: Reading)
         requires { self.old.waiting ≡ None }
-        ensures { Says self.old (listed_as reading ∷ []) self.new out.old out.new }
+        ensures { Says H.hears self.old (listed_as reading ∷ []) self.new out.old out.new }
     {
-        add_reading(out, &reading);
+        out.reading(&reading);
         self.waiting = Some(reading);
     }
 
@@ -144,9 +142,9 @@ impl Listener {
     }
 
     // Hears a reading that has ended, if there is one, and returns whether nothing waited.
-    fn hear<S: Sink>(&mut self, out: &mut Counted<'_, S>, reading: Option<Reading>) -> bool
+    fn hear<H: LineHearer>(&mut self, out: &mut H, reading: Option<Reading>) -> bool
         ensures waits { SaysAllKnown self.old → SaysAllKnown self.new }
-        ensures says { HearsAll self.old (option_to_list (option_map listed_as reading)) result self.new out.old out.new }
+        ensures says { HearsAll H.hears self.old (option_to_list (option_map listed_as reading)) result self.new out.old out.new }
     {
         match reading {
             None => true,
@@ -154,22 +152,23 @@ impl Listener {
                 if self.waits() {
                     return false;
                 }
-                self.add_line(out, reading);
+                self.hear_line(out, reading);
                 self.settle(out);
                 true
             }
         }
     }
 
-    // Adds what is known by the edge that came, and hears the readings that have ended. Returns whether nothing waited before each.
-    fn hear_all<S: Sink>(
+    // Has what is known by the edge that came heard, and hears the readings that have ended. Returns whether nothing waited before
+    // each.
+    fn hear_all<H: LineHearer>(
         &mut self,
-        out: &mut Counted<'_, S>,
+        out: &mut H,
         first: Option<Reading>,
         second: Option<Reading>,
     ) -> bool
         ensures waits { SaysAllKnown self.new }
-        ensures says { HearsAll self.old (option_to_list (option_map listed_as first) ++ option_to_list (option_map listed_as second)) result self.new out.old out.new }
+        ensures says { HearsAll H.hears self.old (option_to_list (option_map listed_as first) ++ option_to_list (option_map listed_as second)) result self.new out.old out.new }
     {
         self.settle(out);
         if !self.hear(out, first) {
@@ -179,22 +178,32 @@ impl Listener {
     }
 
     /// Hears the readings that have ended since the last call, at most two, after the edge that came: writes their lines, and what
-    /// there is to remark of each as soon as the edges say all of it.
+    /// there is to remark of each as soon as the edges say all of it. `remarked` is whether the standard has something of what was
+    /// written otherwise.
     ///
     /// # Errors
     ///
     /// `Write` where the sink takes no more, and `Waiting`. Then a front of that was written.
     pub(crate) fn tell<S: Sink>(
         &mut self,
+        remarked: &mut bool,
         first: Option<Reading>,
         second: Option<Reading>,
         out: &mut S,
     ) -> Result<(), FollowAuditError>
         ensures waits { OnOk result (SaysAllKnown self.new) }
-        ensures puts { Puts self.old (option_to_list (option_map listed_as first) ++ option_to_list (option_map listed_as second)) self.new (S.contents out.old) (S.contents out.new) result }
+        ensures puts { Puts self.old (option_to_list (option_map listed_as first) ++ option_to_list (option_map listed_as second)) self.new remarked.old remarked.new (S.contents out.old) (S.contents out.new) result }
     {
-        let mut audit = Counted::new(out);
-        let heard = self.hear_all(&mut audit, first, second);
+        let mut lines = Strict {
+            hearer: LineWriter {
+                form: self.view.written,
+                out: Counted::new(out),
+            },
+            remarked: *remarked,
+        };
+        let heard = self.hear_all(&mut lines, first, second);
+        *remarked = lines.remarked;
+        let audit = lines.hearer.out;
         let written = audit.written();
         // No effect at run time. The proof reads what `out` holds from the sink that comes back.
         let _below = audit.into_sink();
@@ -208,44 +217,67 @@ impl Listener {
     }
 
     // Hears a reading where no edge is left, if there is one. Nothing waits.
-    fn hear_last<S: Sink>(&mut self, out: &mut Counted<'_, S>, reading: Option<Reading>)
+    fn hear_last<H: LineHearer>(&mut self, out: &mut H, reading: Option<Reading>)
         requires { self.old.waiting ≡ None }
-        ensures { SaysLast self.old (option_to_list (option_map listed_as reading)) self.new out.old out.new }
+        ensures { SaysLast H.hears self.old (option_to_list (option_map listed_as reading)) self.new out.old out.new }
     {
         match reading {
             None => {}
             Some(reading) => {
-                self.add_line(out, reading);
+                self.hear_line(out, reading);
                 self.remark(out);
             }
         }
     }
 
-    /// No edge is left: hears the last readings, and writes what there is to say of all of them.
+    // Has all heard that is left to say, up to the end.
+    fn hear_rest<H: LineHearer>(
+        &mut self,
+        out: &mut H,
+        first: Option<Reading>,
+        second: Option<Reading>,
+        end: u64,
+    )
+        ensures { SaysEnd H.hears self.old (option_to_list (option_map listed_as first) ++ option_to_list (option_map listed_as second)) end out.old out.new }
+    {
+        self.remark(out);
+        self.hear_last(out, first);
+        self.hear_last(out, second);
+        self.auditor.summarize(out, end);
+    }
+
+    /// No edge is left: hears the last readings, and writes what there is to say of all of them. `remarked` is whether the standard
+    /// has something of what was written otherwise; returned is whether it has something of all of it otherwise.
     ///
     /// # Errors
     ///
     /// `Write` where the sink takes no more. Then a front of that was written.
     pub(crate) fn finish<S: Sink>(
         self,
+        remarked: bool,
         first: Option<Reading>,
         second: Option<Reading>,
         end: u64,
         out: &mut S,
-    ) -> Result<(), FollowAuditError>
-        ensures { Finishes self (option_to_list (option_map listed_as first) ++ option_to_list (option_map listed_as second)) end (S.contents out.old) (S.contents out.new) result }
+    ) -> Result<bool, FollowAuditError>
+        ensures { Finishes self (option_to_list (option_map listed_as first) ++ option_to_list (option_map listed_as second)) end remarked (S.contents out.old) (S.contents out.new) result }
     {
         let mut listener = self;
-        let mut audit = Counted::new(out);
-        listener.remark(&mut audit);
-        listener.hear_last(&mut audit, first);
-        listener.hear_last(&mut audit, second);
-        listener.auditor.summarize(&mut audit, end);
+        let mut lines = Strict {
+            hearer: LineWriter {
+                form: listener.view.written,
+                out: Counted::new(out),
+            },
+            remarked,
+        };
+        listener.hear_rest(&mut lines, first, second, end);
+        let remarked = lines.remarked;
+        let audit = lines.hearer.out;
         let written = audit.written();
         // No effect at run time. The proof reads what `out` holds from the sink that comes back.
         let _below = audit.into_sink();
         match written {
-            Ok(_) => Ok(()),
+            Ok(_) => Ok(remarked),
             Err(fault) => Err(FollowAuditError::Write(fault.count)),
         }
     }

@@ -1,5 +1,5 @@
 -- What is reported of a capture as its lines come: at each moment the front of the text of the whole, whatever comes later (own).
-use Rattle.std.specs.Prelude.{◌≡◌, ℕ, ◌+◌, ◌<◌, ◌≤◌, ◌⊎◌, Bool, true, false, List, [], ◌∷◌, ◌++◌, length, Option, Some, None, IfErr, IfSome, Result, Ok, Err}
+use Rattle.std.specs.Prelude.{◌≡◌, ℕ, ◌+◌, ◌<◌, ◌≤◌, ◌⊎◌, Bool, true, false, List, [], ◌∷◌, ◌++◌, length, map, Option, Some, None, IfErr, IfSome, Result, Ok, Err}
 use Rattle.std.specs.Io.KnownBytes.{Appends}
 use Rattle.text_core.specs.Lines.{lines_of}
 use Rattle.text_core.specs.declared.at.At.{At}
@@ -8,7 +8,10 @@ use Rattle.line_reading.specs.declared.times.Windows.{Windows}
 use Rattle.capture_core.specs.Edges.{Captured, line_of_edges}
 use Rattle.capture_core.specs.Reading.{with_edges}
 use Rattle.capture_core.specs.declared.fault.Cause.{Cause}
-use Rattle.capture_monitor.specs.Watch.{captured_by, readings_text, reported_text}
+use Rattle.capture_monitor.specs.Watch.{captured_by}
+use Rattle.record_core.specs.declared.cell.Form.{Form}
+use Rattle.audit_notes.specs.Lines.{lines_text}
+use Rattle.audit_notes.specs.Lines.AuditLine.{Reading}
 use Rattle.capture_forms.specs.Captures.{capture_in}
 use Rattle.live_incoming.specs.Incoming.{IsNext, longest_line}
 use Rattle.live_incoming.specs.declared.incoming.IncomingFault.{IncomingFault}
@@ -22,21 +25,28 @@ use Rattle.follow_core.specs.declared.follower.Follower.{Follower}
 use Rattle.follow_core.specs.declared.follower.EndedReadings.{EndedReadings}
 use Rattle.follow_core.specs.declared.error.FollowError.{FollowError}
 use Rattle.follow_core.specs.declared.error.FollowError.TheVariants.{Capture, Read, TooLong, Write}
-use Rattle.std.specs.Option.{option_map}
+use Rattle.std.specs.Option.{option_map, option_to_list}
+
+-- the text of readings: their lines, or their objects
+abbrev pub listed_text : Form → List Listed → List ℕ
+listed_text written xs = lines_text written (map Reading xs)
+
+abbrev pub reported_text : Form → Option Listed → List ℕ
+reported_text written o = listed_text written (option_to_list o)
 
 -- the text of a whole capture
-abbrev pub text_of : Windows → Captured → List ℕ
-text_of windows c = readings_text (captured_by windows c)
+abbrev pub text_of : Form → Windows → Captured → List ℕ
+text_of written windows c = listed_text written (captured_by windows c)
 
 -- ---- a follower
 
 -- Of a capture these lines came, before the one of this number, and this text was reported: whatever comes later, these are the
 -- readings that have ended.
-pub record IsFollowed (form : LineForm) (signal : List ℕ) (windows : Windows) (past : List (List ℕ)) (number : ℕ) (f : Follower) (text : List ℕ) : Type 0 where
+pub record IsFollowed (form : LineForm) (signal : List ℕ) (written : Form) (windows : Windows) (past : List (List ℕ)) (number : ℕ) (f : Follower) (text : List ℕ) : Type 0 where
   pub edges : List Edge
   pub read : (rest : List (List ℕ)) → lines_captured form signal (past ++ rest) ≡ with_edges edges (lines_left signal f.lines number rest)
   pub told : (rest : List (List ℕ)) (c : Captured) → lines_left signal f.lines number rest ≡ Ok c
-      → (ended : List Listed) × IsTold windows f.teller (line_of_edges (edges ++ c.edges)) c.edges c.end ended × (text ≡ readings_text ended)
+      → (ended : List Listed) × IsTold windows f.teller (line_of_edges (edges ++ c.edges)) c.edges c.end ended × (text ≡ listed_text written ended)
 
 -- all is known that the lines say: a reading that is over by them is reported
 abbrev pub IsPrompt : Follower → Type 0
@@ -45,26 +55,26 @@ IsPrompt f = from_of f.lines ≤ f.teller.known
 abbrev pub IsReady : Follower → Type 0
 IsReady f = IsEarly f.lines × IsToldEarly f.teller
 
-abbrev pub heard_text : EndedReadings → List ℕ
-heard_text h = reported_text (option_map listed_as h.first) ++ reported_text (option_map listed_as h.second)
+abbrev pub heard_text : Form → EndedReadings → List ℕ
+heard_text written h = reported_text written (option_map listed_as h.first) ++ reported_text written (option_map listed_as h.second)
 
 -- a line has come
 abbrev pub HearsLine : List ℕ → ℕ → List ℕ → Follower → Result EndedReadings (At Cause) → Follower → Type 0
-HearsLine signal number line old (Ok heard) new = (form : LineForm) (windows : Windows) (past : List (List ℕ)) (text : List ℕ) → IsFollowed form signal windows past number old text
-    → IsFollowed form signal windows (past ++ line ∷ []) (number + 1) new (text ++ heard_text heard)
-HearsLine signal number line old (Err fault) new = (form : LineForm) (windows : Windows) (past : List (List ℕ)) (text : List ℕ) → IsFollowed form signal windows past number old text
+HearsLine signal number line old (Ok heard) new = (form : LineForm) (written : Form) (windows : Windows) (past : List (List ℕ)) (text : List ℕ) → IsFollowed form signal written windows past number old text
+    → IsFollowed form signal written windows (past ++ line ∷ []) (number + 1) new (text ++ heard_text written heard)
+HearsLine signal number line old (Err fault) new = (form : LineForm) (written : Form) (windows : Windows) (past : List (List ℕ)) (text : List ℕ) → IsFollowed form signal written windows past number old text
     → (rest : List (List ℕ)) → lines_captured form signal (past ++ line ∷ rest) ≡ Err fault
 
 -- no line is left
-pub record IsWhole (form : LineForm) (signal : List ℕ) (windows : Windows) (lines : List (List ℕ)) (text : List ℕ) : Type 0 where
+pub record IsWhole (form : LineForm) (signal : List ℕ) (written : Form) (windows : Windows) (lines : List (List ℕ)) (text : List ℕ) : Type 0 where
   pub capture : Captured
   pub read : lines_captured form signal lines ≡ Ok capture
-  pub all : text_of windows capture ≡ text
+  pub all : text_of written windows capture ≡ text
 
 abbrev pub HearsEnd : ℕ → Follower → Result EndedReadings (At Cause) → Type 0
-HearsEnd number f (Ok heard) = (form : LineForm) (signal : List ℕ) (windows : Windows) (past : List (List ℕ)) (text : List ℕ) → IsFollowed form signal windows past number f text
-    → IsWhole form signal windows past (text ++ heard_text heard)
-HearsEnd number f (Err fault) = (form : LineForm) (signal : List ℕ) (windows : Windows) (past : List (List ℕ)) (text : List ℕ) → IsFollowed form signal windows past number f text
+HearsEnd number f (Ok heard) = (form : LineForm) (signal : List ℕ) (written : Form) (windows : Windows) (past : List (List ℕ)) (text : List ℕ) → IsFollowed form signal written windows past number f text
+    → IsWhole form signal written windows past (text ++ heard_text written heard)
+HearsEnd number f (Err fault) = (form : LineForm) (signal : List ℕ) (written : Form) (windows : Windows) (past : List (List ℕ)) (text : List ℕ) → IsFollowed form signal written windows past number f text
     → lines_captured form signal past ≡ Err fault
 
 -- ---- what is written
@@ -88,76 +98,76 @@ AreLeft true rest = Unit {0}
 AreLeft false rest = rest ≡ []
 
 -- Whatever comes after these lines, where some may come, this text is a front of that of the capture.
-abbrev pub IsFront : Bool → LineForm → List ℕ → Windows → List (List ℕ) → List ℕ → Type 0
-IsFront more form signal windows past text = (rest : List (List ℕ)) (c : Captured) → AreLeft more rest → lines_captured form signal (past ++ rest) ≡ Ok c
-    → (left : List ℕ) × (text_of windows c ≡ text ++ left)
+abbrev pub IsFront : Bool → LineForm → List ℕ → Form → Windows → List (List ℕ) → List ℕ → Type 0
+IsFront more form signal written windows past text = (rest : List (List ℕ)) (c : Captured) → AreLeft more rest → lines_captured form signal (past ++ rest) ≡ Ok c
+    → (left : List ℕ) × (text_of written windows c ≡ text ++ left)
 
 -- a line has come, and what has ended by it is written
-pub record HasHeard (signal : List ℕ) (number : ℕ) (line : List ℕ) (old new : Follower) (before after : Option (List ℕ)) : Type 0 where
+pub record HasHeard (written : Form) (signal : List ℕ) (number : ℕ) (line : List ℕ) (old new : Follower) (before after : Option (List ℕ)) : Type 0 where
   pub text : List ℕ
   pub put : Appends before after text
-  pub followed : (form : LineForm) (windows : Windows) (past : List (List ℕ)) (so_far : List ℕ) → IsFollowed form signal windows past number old so_far
-      → IsFollowed form signal windows (past ++ line ∷ []) (number + 1) new (so_far ++ text)
+  pub followed : (form : LineForm) (windows : Windows) (past : List (List ℕ)) (so_far : List ℕ) → IsFollowed form signal written windows past number old so_far
+      → IsFollowed form signal written windows (past ++ line ∷ []) (number + 1) new (so_far ++ text)
   pub prompt : IsPrompt new
 
 -- it is at fault, and nothing is written
 pub record IsAtFault (signal : List ℕ) (number : ℕ) (line : List ℕ) (old : Follower) (before after : Option (List ℕ)) (fault : At Cause) : Type 0 where
   pub put : Appends before after []
   pub place : fault.line ≡ number
-  pub refused : (form : LineForm) (windows : Windows) (past : List (List ℕ)) (so_far : List ℕ) → IsFollowed form signal windows past number old so_far
+  pub refused : (form : LineForm) (written : Form) (windows : Windows) (past : List (List ℕ)) (so_far : List ℕ) → IsFollowed form signal written windows past number old so_far
       → (rest : List (List ℕ)) → lines_captured form signal (past ++ line ∷ rest) ≡ Err fault
 
 -- a write failed: a front of what has ended by it is written
-pub record IsCut (signal : List ℕ) (number : ℕ) (line : List ℕ) (old new : Follower) (before after : Option (List ℕ)) : Type 0 where
+pub record IsCut (written : Form) (signal : List ℕ) (number : ℕ) (line : List ℕ) (old new : Follower) (before after : Option (List ℕ)) : Type 0 where
   pub text : List ℕ
   pub left : List ℕ
   pub put : Appends before after text
-  pub followed : (form : LineForm) (windows : Windows) (past : List (List ℕ)) (so_far : List ℕ) → IsFollowed form signal windows past number old so_far
-      → IsFollowed form signal windows (past ++ line ∷ []) (number + 1) new (so_far ++ (text ++ left))
+  pub followed : (form : LineForm) (windows : Windows) (past : List (List ℕ)) (so_far : List ℕ) → IsFollowed form signal written windows past number old so_far
+      → IsFollowed form signal written windows (past ++ line ∷ []) (number + 1) new (so_far ++ (text ++ left))
   pub prompt : IsPrompt new
 
-abbrev pub Hears : List ℕ → ℕ → List ℕ → Follower → Follower → Option (List ℕ) → Option (List ℕ) → Result (Unit {0}) FollowError → Type 0
-Hears signal number line old new before after (Ok done) = HasHeard signal number line old new before after
-Hears signal number line old new before after (Err (Capture fault)) = IsAtFault signal number line old before after fault
-Hears signal number line old new before after (Err (Write count)) = IsCut signal number line old new before after
-Hears signal number line old new before after (Err Read) = ⊥
-Hears signal number line old new before after (Err TooLong) = ⊥
+abbrev pub Hears : Form → List ℕ → ℕ → List ℕ → Follower → Follower → Option (List ℕ) → Option (List ℕ) → Result (Unit {0}) FollowError → Type 0
+Hears written signal number line old new before after (Ok done) = HasHeard written signal number line old new before after
+Hears written signal number line old new before after (Err (Capture fault)) = IsAtFault signal number line old before after fault
+Hears written signal number line old new before after (Err (Write count)) = IsCut written signal number line old new before after
+Hears written signal number line old new before after (Err Read) = ⊥
+Hears written signal number line old new before after (Err TooLong) = ⊥
 
 -- no line is left, and the rest is written, or the end is missing
-pub record HasWritten (number : ℕ) (f : Follower) (before after : Option (List ℕ)) : Type 0 where
+pub record HasWritten (written : Form) (number : ℕ) (f : Follower) (before after : Option (List ℕ)) : Type 0 where
   pub text : List ℕ
   pub put : Appends before after text
-  pub all : (form : LineForm) (signal : List ℕ) (windows : Windows) (past : List (List ℕ)) (so_far : List ℕ) → IsFollowed form signal windows past number f so_far
-      → IsWhole form signal windows past (so_far ++ text)
+  pub all : (form : LineForm) (signal : List ℕ) (windows : Windows) (past : List (List ℕ)) (so_far : List ℕ) → IsFollowed form signal written windows past number f so_far
+      → IsWhole form signal written windows past (so_far ++ text)
 
 pub record LacksEnd (number : ℕ) (f : Follower) (before after : Option (List ℕ)) (fault : At Cause) : Type 0 where
   pub put : Appends before after []
   pub place : fault.line ≡ number
-  pub refused : (form : LineForm) (signal : List ℕ) (windows : Windows) (past : List (List ℕ)) (so_far : List ℕ) → IsFollowed form signal windows past number f so_far → lines_captured form signal past ≡ Err fault
+  pub refused : (form : LineForm) (signal : List ℕ) (written : Form) (windows : Windows) (past : List (List ℕ)) (so_far : List ℕ) → IsFollowed form signal written windows past number f so_far → lines_captured form signal past ≡ Err fault
 
-pub record IsCutLast (number : ℕ) (f : Follower) (before after : Option (List ℕ)) : Type 0 where
+pub record IsCutLast (written : Form) (number : ℕ) (f : Follower) (before after : Option (List ℕ)) : Type 0 where
   pub text : List ℕ
   pub left : List ℕ
   pub put : Appends before after text
-  pub all : (form : LineForm) (signal : List ℕ) (windows : Windows) (past : List (List ℕ)) (so_far : List ℕ) → IsFollowed form signal windows past number f so_far
-      → IsWhole form signal windows past (so_far ++ (text ++ left))
+  pub all : (form : LineForm) (signal : List ℕ) (windows : Windows) (past : List (List ℕ)) (so_far : List ℕ) → IsFollowed form signal written windows past number f so_far
+      → IsWhole form signal written windows past (so_far ++ (text ++ left))
 
-abbrev pub Ends : ℕ → Follower → Option (List ℕ) → Option (List ℕ) → Result (Unit {0}) FollowError → Type 0
-Ends number f before after (Ok done) = HasWritten number f before after
-Ends number f before after (Err (Capture fault)) = LacksEnd number f before after fault
-Ends number f before after (Err (Write count)) = IsCutLast number f before after
-Ends number f before after (Err Read) = ⊥
-Ends number f before after (Err TooLong) = ⊥
+abbrev pub Ends : Form → ℕ → Follower → Option (List ℕ) → Option (List ℕ) → Result (Unit {0}) FollowError → Type 0
+Ends written number f before after (Ok done) = HasWritten written number f before after
+Ends written number f before after (Err (Capture fault)) = LacksEnd number f before after fault
+Ends written number f before after (Err (Write count)) = IsCutLast written number f before after
+Ends written number f before after (Err Read) = ⊥
+Ends written number f before after (Err TooLong) = ⊥
 
 -- ---- an input
 
 -- the readings of the capture that an input spells are written, and nothing else
-pub record HasFollowed (form : LineForm) (signal : List ℕ) (windows : Windows) (known old new : Option (List ℕ)) : Type 0 where
+pub record HasFollowed (form : LineForm) (signal : List ℕ) (written : Form) (windows : Windows) (known old new : Option (List ℕ)) : Type 0 where
   pub input : List ℕ
   pub all : IfSome known (λ text. input ≡ text)
   pub capture : Captured
   pub read : capture_in (form_as form) signal input ≡ Ok capture
-  pub put : Appends old new (text_of windows capture)
+  pub put : Appends old new (text_of written windows capture)
 
 -- its first lines are these
 abbrev pub AreFirst : Option (List ℕ) → List (List ℕ) → Type 0
@@ -175,12 +185,12 @@ Come (Some before) None lines = ⊥
 Come (Some before) (Some after) lines = lines_of before ≡ lines ++ lines_of after
 
 -- Each reading that is over by these lines is written, and nothing else: the front of the text of each capture that begins so.
-pub record IsUpToDate (form : LineForm) (signal : List ℕ) (windows : Windows) (past : List (List ℕ)) (old new : Option (List ℕ)) : Type 0 where
+pub record IsUpToDate (form : LineForm) (signal : List ℕ) (written : Form) (windows : Windows) (past : List (List ℕ)) (old new : Option (List ℕ)) : Type 0 where
   pub follower : Follower
   pub text : List ℕ
-  pub followed : IsFollowed form signal windows past (length past + 1) follower text
+  pub followed : IsFollowed form signal written windows past (length past + 1) follower text
   pub prompt : IsPrompt follower
-  pub front : IsFront true form signal windows past text
+  pub front : IsFront true form signal written windows past text
   pub put : Appends old new text
 
 -- a line is at fault whatever comes after it, or the end is missing
@@ -220,23 +230,23 @@ pub record StopsAtLength (known : Option (List ℕ)) (IsUpTo : List (List ℕ) �
 
 -- this text is all that is over by these lines and the next one, or by all of them where there is none; and this is a front of that of
 -- each capture that begins so
-abbrev pub IsOverBy : LineForm → List ℕ → Windows → List (List ℕ) → Option (List ℕ) → List ℕ → List ℕ → Type 0
-IsOverBy form signal windows past (Some line) text front =
-    (f : Follower) × IsFollowed form signal windows (past ++ line ∷ []) (length past + 1 + 1) f text × IsPrompt f × IsFront true form signal windows (past ++ line ∷ []) front
-IsOverBy form signal windows past None text front = IsWhole form signal windows past text × IsFront false form signal windows past front
+abbrev pub IsOverBy : LineForm → List ℕ → Form → Windows → List (List ℕ) → Option (List ℕ) → List ℕ → List ℕ → Type 0
+IsOverBy form signal written windows past (Some line) text front =
+    (f : Follower) × IsFollowed form signal written windows (past ++ line ∷ []) (length past + 1 + 1) f text × IsPrompt f × IsFront true form signal written windows (past ++ line ∷ []) front
+IsOverBy form signal written windows past None text front = IsWhole form signal written windows past text × IsFront false form signal written windows past front
 
 -- a write failed: what was over by these lines is written, and a front of what is over by the next one, or with the end
-pub record StopsAtWrite (form : LineForm) (signal : List ℕ) (windows : Windows) (known old new : Option (List ℕ)) : Type 0 where
+pub record StopsAtWrite (form : LineForm) (signal : List ℕ) (written : Form) (windows : Windows) (known old new : Option (List ℕ)) : Type 0 where
   pub past : List (List ℕ)
   pub next : Option (List ℕ)
   pub came : HaveCome known past next
   pub follower : Follower
   pub text : List ℕ
-  pub followed : IsFollowed form signal windows past (length past + 1) follower text
+  pub followed : IsFollowed form signal written windows past (length past + 1) follower text
   pub prompt : IsPrompt follower
   pub front : List ℕ
   pub left : List ℕ
-  pub over : IsOverBy form signal windows past next (text ++ (front ++ left)) (text ++ front)
+  pub over : IsOverBy form signal written windows past next (text ++ (front ++ left)) (text ++ front)
   pub put : Appends old new (text ++ front)
 
 -- nothing is held back, but where a write failed
@@ -255,12 +265,12 @@ abbrev pub line_error : IncomingFault → FollowError
 line_error line_fault.Read = Read
 line_error line_fault.TooLong = TooLong
 
-abbrev pub Stops : LineForm → List ℕ → Windows → Option (List ℕ) → Option (List ℕ) → Option (List ℕ) → FollowError → Type 0
-Stops form signal windows known old new (Capture fault) = StopsAtFault form signal known fault (λ past. IsUpToDate form signal windows past old new)
-Stops form signal windows known old new Read = StopsAtRead known (λ past. IsUpToDate form signal windows past old new)
-Stops form signal windows known old new TooLong = StopsAtLength known (λ past. IsUpToDate form signal windows past old new)
-Stops form signal windows known old new (Write count) = StopsAtWrite form signal windows known old new
+abbrev pub Stops : LineForm → List ℕ → Form → Windows → Option (List ℕ) → Option (List ℕ) → Option (List ℕ) → FollowError → Type 0
+Stops form signal written windows known old new (Capture fault) = StopsAtFault form signal known fault (λ past. IsUpToDate form signal written windows past old new)
+Stops form signal written windows known old new Read = StopsAtRead known (λ past. IsUpToDate form signal written windows past old new)
+Stops form signal written windows known old new TooLong = StopsAtLength known (λ past. IsUpToDate form signal written windows past old new)
+Stops form signal written windows known old new (Write count) = StopsAtWrite form signal written windows known old new
 
-abbrev pub Follows : LineForm → List ℕ → Windows → Option (List ℕ) → Option (List ℕ) → Option (List ℕ) → Result (Unit {0}) FollowError → Type 0
-Follows form signal windows known old new (Ok done) = HasFollowed form signal windows known old new
-Follows form signal windows known old new (Err error) = Stops form signal windows known old new error
+abbrev pub Follows : LineForm → List ℕ → Form → Windows → Option (List ℕ) → Option (List ℕ) → Option (List ℕ) → Result (Unit {0}) FollowError → Type 0
+Follows form signal written windows known old new (Ok done) = HasFollowed form signal written windows known old new
+Follows form signal written windows known old new (Err error) = Stops form signal written windows known old new error

@@ -1,6 +1,7 @@
 //! A capture that is followed line by line.
 ghost use Rattle.std.specs.Prelude.{◌≡◌, [], ℕ, List, IfErr, OnOk};
 ghost use Rattle.line_reading.specs.Windows.{AreWindows};
+ghost use Rattle.record_core.specs.declared.cell.Form.{Form};
 ghost use Rattle.follow_core.specs.Follow.{HearsEnd, HearsLine, IsFollowed, IsPrompt, IsReady};
 
 use crate::lines::{CaptureLines, LineForm};
@@ -31,7 +32,7 @@ impl Follower {
     /// A follower by these windows of a capture in this form, of which no line has come.
     pub fn new(form: LineForm, windows: Windows) -> Self
         requires { AreWindows windows }
-        ensures followed { (signal : List ℕ) → IsFollowed form signal windows [] 1 result [] }
+        ensures followed { (signal : List ℕ) (written : Form) → IsFollowed form signal written windows [] 1 result [] }
         ensures prompt { IsPrompt result }
         ensures ready { IsReady result }
     {

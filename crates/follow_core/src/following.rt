@@ -1,46 +1,54 @@
 //! A capture that is followed over a reader and a sink.
-ghost use Rattle.std.specs.Prelude.{◌≡◌, [], Err, OnOk};
+ghost use Rattle.std.specs.Prelude.{◌≡◌, [], Err, OnOk, map};
 ghost use Rattle.std.specs.Io.KnownBytes.{Keeps};
-ghost use Rattle.std.specs.Option.{option_map};
+ghost use Rattle.std.specs.Option.{option_map, option_to_list};
 ghost use Rattle.text_core.specs.Buffered.{pending};
 ghost use Rattle.line_reading.specs.Reports.{listed_as};
 ghost use Rattle.line_reading.specs.Windows.{AreWindows};
-ghost use Rattle.capture_monitor.specs.Watch.{reported_text};
+ghost use Rattle.audit_notes.specs.Lines.{AuditLine};
 ghost use Rattle.follow_core.specs.Follow.{Ends, Follows, HoldsNothing, Hears, IsOfWriting, IsReady, Puts, heard_text, line_error};
 
 use crate::error::FollowError;
 use crate::follower::{EndedReadings, Follower};
 use crate::lines::LineForm;
 use arrayvec::ArrayVec;
+use audit_notes::{LineHearer, LineWriter};
 use line_frames::Reading;
 use line_reading::Windows;
 use live_incoming::{IncomingFault, Lines};
-use message_text::write_reading;
+use record_core::Form;
 use std::io::Read;
-use text_core::{Buffered, Sink, WriteFault};
+use text_core::{Buffered, Counted, Sink, WriteFault};
 
 /// The most lines of a capture.
 const MOST_LINES: u64 = 18_446_744_073_709_551_615;
 
-// Writes the line of a reading, if there is one.
-fn write_one<S: Sink>(reading: &Option<Reading>, out: &mut S) -> Result<(), WriteFault>
-    ensures { Puts (S.contents out.old) (S.contents out.new) (reported_text (option_map listed_as reading.now)) result }
+// Hears a reading, if there is one.
+fn hear_one<H: LineHearer>(reading: &Option<Reading>, out: &mut H)
+    ensures { H.hears out.old (map AuditLine.Reading (option_to_list (option_map listed_as reading.now))) out.new }
 {
     match reading {
-        None => Ok(()),
-        Some(reading) => match write_reading(reading, out) {
-            Ok(_) => Ok(()),
-            Err(fault) => Err(fault),
-        },
+        None => {}
+        Some(reading) => out.reading(reading),
     }
 }
 
-// Writes what has ended, up to a fault.
-fn write_both<S: Sink>(heard: &EndedReadings, out: &mut S) -> Result<(), WriteFault>
-    ensures { Puts (S.contents out.old) (S.contents out.new) (heard_text heard.now) result }
+// Writes what has ended, up to a fault: its lines, or their objects.
+fn write_both<S: Sink>(written: Form, heard: &EndedReadings, out: &mut S) -> Result<(), WriteFault>
+    ensures { Puts (S.contents out.old) (S.contents out.new) (heard_text written heard.now) result }
 {
-    match write_one(&heard.first, out) {
-        Ok(()) => write_one(&heard.second, out),
+    let mut lines = LineWriter {
+        form: written,
+        out: Counted::new(out),
+    };
+    hear_one(&heard.first, &mut lines);
+    hear_one(&heard.second, &mut lines);
+    let text = lines.out;
+    let done = text.written();
+    // No effect at run time. The proof reads what `out` holds from the sink that comes back.
+    let _below = text.into_sink();
+    match done {
+        Ok(_) => Ok(()),
         Err(fault) => Err(fault),
     }
 }
@@ -57,12 +65,16 @@ fn stopped<S: Sink>(fault: WriteFault, out: &mut Buffered<S>) -> FollowError
 }
 
 // Writes what has ended, and hands it on.
-fn write_heard<S: Sink>(heard: &EndedReadings, out: &mut Buffered<S>) -> Result<(), FollowError>
-    ensures put { Puts (⟦<Buffered<S> as Sink>⟧.contents out.old) (⟦<Buffered<S> as Sink>⟧.contents out.new) (heard_text heard.now) result }
+fn write_heard<S: Sink>(
+    written: Form,
+    heard: &EndedReadings,
+    out: &mut Buffered<S>,
+) -> Result<(), FollowError>
+    ensures put { Puts (⟦<Buffered<S> as Sink>⟧.contents out.old) (⟦<Buffered<S> as Sink>⟧.contents out.new) (heard_text written heard.now) result }
     ensures handed { OnOk result (pending out.new ≡ []) }
     ensures writing { IsOfWriting result }
 {
-    match write_both(heard, out) {
+    match write_both(written, heard, out) {
         Err(fault) => Err(stopped(fault, out)),
         Ok(()) => match out.flush() {
             Ok(()) => Ok(()),
@@ -84,43 +96,45 @@ fn line_error(fault: IncomingFault) -> FollowError
 // Takes a line, writes what has ended by it, and hands that on.
 fn hear<S: Sink>(
     follower: &mut Follower,
+    written: Form,
     signal: &[u8],
     number: u64,
     line: &[u8],
     out: &mut Buffered<S>,
 ) -> Result<(), FollowError>
     requires ready { IsReady follower.old }
-    ensures hears { Hears signal.now number line.now follower.old follower.new (⟦<Buffered<S> as Sink>⟧.contents out.old) (⟦<Buffered<S> as Sink>⟧.contents out.new) result }
+    ensures hears { Hears written signal.now number line.now follower.old follower.new (⟦<Buffered<S> as Sink>⟧.contents out.old) (⟦<Buffered<S> as Sink>⟧.contents out.new) result }
     ensures ready { OnOk result (IsReady follower.new) }
     ensures handed { OnOk result (pending out.new ≡ []) }
     ensures kept { HoldsNothing result (pending out.old) (pending out.new) }
 {
     match follower.line(signal, number, line) {
         Err(fault) => Err(FollowError::Capture(fault)),
-        Ok(heard) => write_heard(&heard, out),
+        Ok(heard) => write_heard(written, &heard, out),
     }
 }
 
 // No line is left: writes what is left of the readings.
 fn finish<S: Sink>(
     follower: Follower,
+    written: Form,
     number: u64,
     out: &mut Buffered<S>,
 ) -> Result<(), FollowError>
     requires ready { IsReady follower }
-    ensures ends { Ends number follower (⟦<Buffered<S> as Sink>⟧.contents out.old) (⟦<Buffered<S> as Sink>⟧.contents out.new) result }
+    ensures ends { Ends written number follower (⟦<Buffered<S> as Sink>⟧.contents out.old) (⟦<Buffered<S> as Sink>⟧.contents out.new) result }
     ensures handed { OnOk result (pending out.new ≡ []) }
     ensures kept { HoldsNothing result (pending out.old) (pending out.new) }
 {
     match follower.end(number) {
         Err(fault) => Err(FollowError::Capture(fault)),
-        Ok(heard) => write_heard(&heard, out),
+        Ok(heard) => write_heard(written, &heard, out),
     }
 }
 
 /// Follows a capture: reads it line by line, and writes each reading of the wire of a name, or of the first where that is empty, as
-/// soon as it is over by what has come, as these windows read it. What was written is handed on before the next line is read. At the end it has written what `watch_capture_by` writes
-/// of the whole.
+/// soon as it is over by what has come, as these windows read it: its line, or its object. What was written is handed on before the
+/// next line is read. At the end it has written the readings of the whole.
 ///
 /// # Errors
 ///
@@ -129,12 +143,13 @@ fn finish<S: Sink>(
 pub fn follow<R: Read, S: Sink>(
     form: LineForm,
     signal: &[u8],
+    written: Form,
     windows: Windows,
     input: &mut R,
     out: &mut Buffered<S>,
 ) -> Result<(), FollowError>
     requires { AreWindows windows }
-    ensures follows { Follows form signal.now windows (R.remaining input.old) (⟦<Buffered<S> as Sink>⟧.contents out.old) (⟦<Buffered<S> as Sink>⟧.contents out.new) result }
+    ensures follows { Follows form signal.now written windows (R.remaining input.old) (⟦<Buffered<S> as Sink>⟧.contents out.old) (⟦<Buffered<S> as Sink>⟧.contents out.new) result }
     ensures handed { OnOk result (pending out.new ≡ []) }
     ensures kept { HoldsNothing result (pending out.old) (pending out.new) }
 {
@@ -146,9 +161,16 @@ pub fn follow<R: Read, S: Sink>(
             Err(fault) => return Err(line_error(fault)),
             Ok(more) => {
                 if !more {
-                    return finish(follower, read + 1, out);
+                    return finish(follower, written, read + 1, out);
                 }
-                match hear(&mut follower, signal, read + 1, line.as_slice(), out) {
+                match hear(
+                    &mut follower,
+                    written,
+                    signal,
+                    read + 1,
+                    line.as_slice(),
+                    out,
+                ) {
                     Ok(()) => {}
                     Err(error) => return Err(error),
                 }

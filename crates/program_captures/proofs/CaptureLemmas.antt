@@ -1,23 +1,24 @@
 -- A capture by its edges and its end.
-use Rattle.std.proofs.Common.{◌≡◌, ℕ, zero, suc, ◌&&◌, Bool, true, false, map, sym, ◌++◌, ◌∷◌, List, [], Option, Some, None, Err, min, refl, ap, subst, append-nil, ◌∙◌}
+use Rattle.std.proofs.Common.{IfErr, OnOk, Ok, Result, inl, inr, ◌≡◌, ℕ, zero, suc, ◌&&◌, Bool, true, false, map, sym, List, [], Option, Some, None, Err, min, refl, ap, subst, append-nil, ◌∙◌}
 use Rattle.line_reading.specs.Windows.{most_margin, standard, wider}
 use Rattle.line_reading.specs.declared.times.Windows.{Windows}
 use Rattle.capture_monitor.proofs.ReadBy.{standard_readings}
-use Rattle.capture_monitor.specs.Watch.{captured_by, readings_text}
-use Rattle.follow_core.specs.Follow.{HasFollowed, IsHandedOn, Stops, text_of}
-use Rattle.audit_core.specs.Audit.{audit_lines, audit_text_of}
-use Rattle.audit_core.proofs.AsLines.{are_lines, readings_lines}
+use Rattle.capture_monitor.specs.Watch.{captured_by}
+use Rattle.follow_core.specs.Follow.{HasFollowed, IsHandedOn, Stops, listed_text, text_of}
+use Rattle.audit_core.specs.Audit.{audit_lines}
+use Rattle.audit_notes.specs.Lines.{AuditLine, has_remark, lines_text}
 use Rattle.audit_notes.specs.Lines.AuditLine.{Reading}
-use Rattle.line_reading.specs.Readings.{Listed}
 use Rattle.follow_audit.specs.Follow.{Follows as FollowsAudit}
 use Rattle.follow_audit.specs.Follow.{HasFollowed as HasAudited}
 use Rattle.follow_audit.specs.Follow.{IsHandedOn as IsAuditHandedOn}
-use Rattle.follow_audit.specs.Follow.{text_of as audit_of}
+use Rattle.follow_audit.specs.Follow.{lines_in, text_of as audit_of}
+use Rattle.follow_audit.specs.declared.view.AuditView.{AuditView}
+use Rattle.cli_words.specs.declared.choice.FollowChoice.{FollowChoice}
+use Rattle.program_captures.specs.declared.fault.MonitorFault.TheVariants as faults
 use Rattle.follow_audit.specs.declared.error.FollowAuditError.{FollowAuditError}
 use Rattle.cli_words.specs.declared.choice.FollowReport.TheVariants as reports
-use Rattle.program_captures.specs.Following.{FollowsTo, IsCauseOf, StopsAudit, StopsSo, fault_of}
+use Rattle.program_captures.specs.Following.{FollowsTo, IsCauseOf, IsOfRemark, StopsAudit, StopsSo, fault_of}
 use Rattle.follow_core.specs.declared.error.FollowError.{FollowError}
-use Rattle.follow_core.specs.declared.lines.LineForm.{LineForm}
 use Rattle.program_captures.specs.declared.fault.MonitorFault.{MonitorFault}
 use Rattle.std.specs.Io.KnownBytes.{Appends, append_known}
 use Rattle.program_captures.specs.Captures.{readings_at}
@@ -60,51 +61,99 @@ nothing_more None = refl
 nothing_more (Some xs) = ap Some (append-nil xs)
 
 -- all that was put is handed on
-pub follows_to : (form : LineForm) (name : List ℕ) (margin : ℕ) (windows : Windows) (known old below : Option (List ℕ)) (pending : List ℕ) → windows ≡ wider (min margin most_margin) → pending ≡ []
-    → HasFollowed form name windows known old (append_known below pending) → FollowsTo form name margin reports.Readings known old below
-follows_to form name margin windows known old below pending e none f = record {
+put_below : (old below : Option (List ℕ)) (pending text : List ℕ) → pending ≡ [] → Appends old (append_known below pending) text → Appends old below text
+put_below old below pending text none put = subst (λ (new : Option (List ℕ)). Appends old new text) (ap (append_known below) none ∙ nothing_more below) put
+
+pub follows_to : (choice : FollowChoice) (name : List ℕ) (windows : Windows) (known old below : Option (List ℕ)) (pending : List ℕ) → windows ≡ wider (min choice.margin most_margin) → pending ≡ []
+    → HasFollowed choice.form name choice.written windows known old (append_known below pending) → FollowsTo (record choice { report = reports.Readings }) name known old below
+follows_to choice name windows known old below pending e none f = record {
   input = f.input;
   all = f.all;
-  text = text_of windows f.capture;
+  text = text_of choice.written windows f.capture;
   reported = (
-    map Reading (readings_at margin f.capture),
+    map Reading (readings_at choice.margin f.capture),
     (f.capture, f.read, (refl, λ strict. absurd (never strict))),
-    ap readings_text (readings_are margin windows f.capture e) ∙ sym (readings_lines (readings_at margin f.capture)),
+    ap (listed_text choice.written) (readings_are choice.margin windows f.capture e),
   );
-  put = subst (λ (new : Option (List ℕ)). Appends old new (text_of windows f.capture)) (ap (append_known below) none ∙ nothing_more below) f.put;
+  put = put_below old below pending (text_of choice.written windows f.capture) none f.put;
 }
 
 -- or why it ends before
-pub stops_so : (form : LineForm) (name : List ℕ) (margin : ℕ) (windows : Windows) (known old new : Option (List ℕ)) (before pending : List ℕ) (error : FollowError) (fault : MonitorFault) → windows ≡ wider (min margin most_margin)
-    → fault ≡ fault_of error → Stops form name windows known old new error → (before ≡ [] → IsHandedOn error pending)
-    → StopsSo form name margin known old new before pending fault
-stops_so form name margin windows known old new before pending error fault e cause stops handed = record {
+pub stops_so : (choice : FollowChoice) (name : List ℕ) (windows : Windows) (known old new : Option (List ℕ)) (before pending : List ℕ) (error : FollowError) (fault : MonitorFault) → windows ≡ wider (min choice.margin most_margin)
+    → fault ≡ fault_of error → Stops choice.form name choice.written windows known old new error → (before ≡ [] → IsHandedOn error pending)
+    → StopsSo choice name known old new before pending fault
+stops_so choice name windows known old new before pending error fault e cause stops handed = record {
   error = error;
   cause = cause;
-  stops = subst (λ (w : Windows). Stops form name w known old new error) e stops;
+  stops = subst (λ (w : Windows). Stops choice.form name choice.written w known old new error) e stops;
   handed = handed;
 }
 
--- the same of an audit
-pub audits_to : (form : LineForm) (name : List ℕ) (margin : ℕ) (timing : Bool) (windows : Windows) (known old below : Option (List ℕ)) (pending : List ℕ) → windows ≡ wider (min margin most_margin) → pending ≡ []
-    → HasAudited form name windows timing known old (append_known below pending) → FollowsTo form name margin (reports.Audit timing) known old below
-audits_to form name margin timing windows known old below pending e none f = record {
-  input = f.input;
-  all = f.all;
-  text = audit_of timing windows f.capture;
-  reported = (
-    audit_lines timing f.capture (readings_at margin f.capture),
-    (f.capture, f.read, (refl, λ strict. absurd (never strict))),
-    ap (audit_text_of timing f.capture) (readings_are margin windows f.capture e) ∙ sym (are_lines timing f.capture (readings_at margin f.capture)),
-  );
-  put = subst (λ (new : Option (List ℕ)). Appends old new (audit_of timing windows f.capture)) (ap (append_known below) none ∙ nothing_more below) f.put;
-}
+-- ---- an audit
 
-pub stops_audit : (form : LineForm) (name : List ℕ) (margin : ℕ) (timing : Bool) (windows : Windows) (known old new : Option (List ℕ)) (before pending : List ℕ) (error : FollowAuditError) (fault : MonitorFault) → windows ≡ wider (min margin most_margin)
-    → IsCauseOf error fault → FollowsAudit form name windows timing known old new (Err error) → (before ≡ [] → IsAuditHandedOn error pending) → StopsAudit form name margin timing known old new before pending fault
-stops_audit form name margin timing windows known old new before pending error fault e cause stops handed = record {
+abbrev view_of : FollowChoice → Bool → AuditView
+view_of choice timing = record { timing = timing; written = choice.written }
+
+-- the lines of the whole, and what is put of them
+lines_are : (choice : FollowChoice) (timing : Bool) (windows : Windows) (c : Captured) → windows ≡ wider (min choice.margin most_margin) → lines_in (view_of choice timing) windows c ≡ audit_lines timing c (readings_at choice.margin c)
+lines_are choice timing windows c e = ap (audit_lines timing c) (readings_are choice.margin windows c e)
+
+-- a strict one has no remark
+pub audits_to : (choice : FollowChoice) (timing strict remarked : Bool) (name : List ℕ) (windows : Windows) (known old below : Option (List ℕ)) (pending : List ℕ) → windows ≡ wider (min choice.margin most_margin) → pending ≡ []
+    → (strict ≡ true → remarked ≡ false) → HasAudited choice.form name windows (view_of choice timing) remarked known old (append_known below pending) → FollowsTo (record choice { report = reports.Audit timing strict }) name known old below
+audits_to choice timing strict remarked name windows known old below pending e none good f =
+    let same = lines_are choice timing windows f.capture e in
+    record {
+      input = f.input;
+      all = f.all;
+      text = audit_of (view_of choice timing) windows f.capture;
+      reported = (
+        audit_lines timing f.capture (readings_at choice.margin f.capture),
+        (f.capture, f.read, (refl, λ is. sym (f.noted ∙ ap has_remark same) ∙ good is)),
+        ap (lines_text choice.written) same,
+      );
+      put = put_below old below pending (audit_of (view_of choice timing) windows f.capture) none f.put;
+    }
+
+-- or it has one, and all of it was put
+pub stops_at_remark : (choice : FollowChoice) (timing strict remarked : Bool) (name : List ℕ) (windows : Windows) (known old new : Option (List ℕ)) (before pending : List ℕ) (fault : MonitorFault) → windows ≡ wider (min choice.margin most_margin) → pending ≡ []
+    → IsOfRemark strict remarked fault → HasAudited choice.form name windows (view_of choice timing) remarked known old new → StopsAudit choice timing strict name known old new before pending fault
+stops_at_remark choice timing strict remarked name windows known old new before pending fault e none why f =
+    let same = lines_are choice timing windows f.capture e in
+    inr (record {
+      input = f.input;
+      all = f.all;
+      lines = audit_lines timing f.capture (readings_at choice.margin f.capture);
+      heard = (f.capture, f.read, (refl, λ is. absurd (never is)));
+      put = subst (λ (ls : List AuditLine). Appends old new (lines_text choice.written ls)) same f.put;
+      handed = none;
+      remark = record { cause = why.cause; is_strict = why.is_strict; is_remarked = sym (f.noted ∙ ap has_remark same) ∙ why.is_remarked };
+    })
+
+pub audit_ends : (choice : FollowChoice) (timing strict remarked : Bool) (name : List ℕ) (windows : Windows) (known old new : Option (List ℕ)) (before pending : List ℕ) (result : Result (Unit {0}) MonitorFault) → windows ≡ wider (min choice.margin most_margin)
+    → pending ≡ [] → IfErr result (λ fault. IsOfRemark strict remarked fault) → HasAudited choice.form name windows (view_of choice timing) remarked known old new
+    → IfErr result (StopsAudit choice timing strict name known old new before pending)
+audit_ends choice timing strict remarked name windows known old new before pending (Ok done) e none why f = tt
+audit_ends choice timing strict remarked name windows known old new before pending (Err fault) e none why f = stops_at_remark choice timing strict remarked name windows known old new before pending fault e none why f
+
+pub audit_done : (choice : FollowChoice) (timing strict remarked : Bool) (name : List ℕ) (windows : Windows) (known old below : Option (List ℕ)) (pending : List ℕ) (result : Result (Unit {0}) MonitorFault) → windows ≡ wider (min choice.margin most_margin)
+    → pending ≡ [] → OnOk result (strict ≡ true → remarked ≡ false) → HasAudited choice.form name windows (view_of choice timing) remarked known old (append_known below pending)
+    → OnOk result (FollowsTo (record choice { report = reports.Audit timing strict }) name known old below)
+audit_done choice timing strict remarked name windows known old below pending (Ok done) e none good f = audits_to choice timing strict remarked name windows known old below pending e none good f
+audit_done choice timing strict remarked name windows known old below pending (Err fault) e none good f = tt
+
+-- or why it ends before
+pub stops_audit : (choice : FollowChoice) (timing strict : Bool) (name : List ℕ) (windows : Windows) (known old new : Option (List ℕ)) (before pending : List ℕ) (error : FollowAuditError) (fault : MonitorFault) → windows ≡ wider (min choice.margin most_margin)
+    → IsCauseOf error fault → FollowsAudit choice.form name windows (view_of choice timing) known old new (Err error) → (before ≡ [] → IsAuditHandedOn error pending) → StopsAudit choice timing strict name known old new before pending fault
+stops_audit choice timing strict name windows known old new before pending error fault e cause stops handed = inl (record {
   error = error;
   cause = cause;
-  stops = subst (λ (w : Windows). FollowsAudit form name w timing known old new (Err error)) e stops;
+  stops = subst (λ (w : Windows). FollowsAudit choice.form name w (view_of choice timing) known old new (Err error)) e stops;
   handed = handed;
-}
+})
+
+-- a remark is one of a strict audit
+pub of_remark : (strict remarked : Bool) (fault : MonitorFault) → fault ≡ faults.Remarked → (strict && remarked) ≡ true → IsOfRemark strict remarked fault
+of_remark true true fault cause both = record { cause = cause; is_strict = refl; is_remarked = refl }
+of_remark true false fault cause both = absurd (never both)
+of_remark false remarked fault cause both = absurd (never both)

@@ -1,5 +1,5 @@
 -- What is written of a capture as its lines come (own).
-use Rattle.std.specs.Prelude.{◌≡◌, ℕ, min, Bool, false, List, [], Option, IfSome, Err}
+use Rattle.std.specs.Prelude.{◌≡◌, ◌⊎◌, ℕ, min, Bool, false, true, List, [], Option, IfSome, Err}
 use Rattle.std.specs.Io.KnownBytes.{Appends}
 use Rattle.line_reading.specs.Windows.{most_margin, wider}
 use Rattle.follow_core.specs.Follow.{IsHandedOn, Stops}
@@ -12,29 +12,30 @@ use Rattle.follow_audit.specs.declared.error.FollowAuditError.{FollowAuditError}
 use Rattle.follow_audit.specs.declared.error.FollowAuditError.TheVariants as audit_error
 use Rattle.program_captures.specs.declared.fault.MonitorFault.{MonitorFault}
 use Rattle.program_captures.specs.declared.fault.MonitorFault.TheVariants as faults
-use Rattle.follow_core.specs.declared.lines.LineForm.{LineForm}
-use Rattle.record_core.specs.declared.cell.Form.TheVariants.{Text}
-use Rattle.program_captures.specs.Captures.{IsShown}
+use Rattle.audit_notes.specs.Lines.{AuditLine, has_remark, lines_text}
+use Rattle.program_captures.specs.Captures.{AreHeard, IsShown}
+use Rattle.follow_audit.specs.declared.view.AuditView.{AuditView}
+use Rattle.cli_words.specs.declared.choice.FollowChoice.{FollowChoice}
 use Rattle.cli_words.specs.declared.choice.FollowReport.{FollowReport}
 use Rattle.cli_words.specs.declared.choice.FollowReport.TheVariants as line_reports
 use Rattle.cli_words.specs.declared.choice.CaptureReport.{CaptureReport}
 use Rattle.cli_words.specs.declared.choice.CaptureReport.TheVariants.{Audit, Readings}
 
--- all readings, or an audit that no remark makes a fault
+-- all readings, or an audit
 abbrev pub report_as : FollowReport → CaptureReport
 report_as line_reports.Readings = Readings
-report_as (line_reports.Audit timing) = Audit timing false
+report_as (line_reports.Audit timing strict) = Audit timing strict
 
 -- this text is what is reported of the capture that an input gives, as of the whole
-abbrev pub IsReported : LineForm → ℕ → FollowReport → List ℕ → List ℕ → List ℕ → Type 0
-IsReported form margin report name input text = IsShown Text false (form_as form) name false 0 margin (report_as report) input text
+abbrev pub IsReported : FollowChoice → List ℕ → List ℕ → List ℕ → Type 0
+IsReported choice name input text = IsShown choice.written false (form_as choice.form) name false 0 choice.margin (report_as choice.report) input text
 
 -- that of all that there was to read is written, and nothing else
-pub record FollowsTo (form : LineForm) (name : List ℕ) (margin : ℕ) (report : FollowReport) (known old new : Option (List ℕ)) : Type 0 where
+pub record FollowsTo (choice : FollowChoice) (name : List ℕ) (known old new : Option (List ℕ)) : Type 0 where
   pub input : List ℕ
   pub all : IfSome known (λ text. input ≡ text)
   pub text : List ℕ
-  pub reported : IsReported form margin report name input text
+  pub reported : IsReported choice name input text
   pub put : Appends old new text
 
 -- why it ends before
@@ -46,10 +47,10 @@ fault_of (error.Write count) = faults.Write (record { count = count })
 
 -- What is over by the lines that came is written and handed on, and nothing else; where a write failed, a front of what the last of
 -- them ends is written.
-pub record StopsSo (form : LineForm) (name : List ℕ) (margin : ℕ) (known old new : Option (List ℕ)) (before pending : List ℕ) (fault : MonitorFault) : Type 0 where
+pub record StopsSo (choice : FollowChoice) (name : List ℕ) (known old new : Option (List ℕ)) (before pending : List ℕ) (fault : MonitorFault) : Type 0 where
   pub error : FollowError
   pub cause : fault ≡ fault_of error
-  pub stops : Stops form name (wider (min margin most_margin)) known old new error
+  pub stops : Stops choice.form name choice.written (wider (min choice.margin most_margin)) known old new error
   pub handed : before ≡ [] → IsHandedOn error pending
 
 -- no memory is left
@@ -72,12 +73,31 @@ IsCauseOf audit_error.Memory fault = IsOfMemory fault
 
 -- a front of the audit of each capture that begins with the lines that came is written; where a line is at fault or a read failed, all of
 -- it that they say, and it is handed on
-pub record StopsAudit (form : LineForm) (name : List ℕ) (margin : ℕ) (timing : Bool) (known old new : Option (List ℕ)) (before pending : List ℕ) (fault : MonitorFault) : Type 0 where
+pub record StopsBefore (choice : FollowChoice) (timing : Bool) (name : List ℕ) (known old new : Option (List ℕ)) (before pending : List ℕ) (fault : MonitorFault) : Type 0 where
   pub error : FollowAuditError
   pub cause : IsCauseOf error fault
-  pub stops : FollowsAudit form name (wider (min margin most_margin)) timing known old new (Err error)
+  pub stops : FollowsAudit choice.form name (wider (min choice.margin most_margin)) (record { timing = timing; written = choice.written }) known old new (Err error)
   pub handed : before ≡ [] → IsAuditHandedOn error pending
 
-abbrev pub StopsAs : FollowReport → LineForm → List ℕ → ℕ → Option (List ℕ) → Option (List ℕ) → Option (List ℕ) → List ℕ → List ℕ → MonitorFault → Type 0
-StopsAs line_reports.Readings form name margin known old new before pending fault = StopsSo form name margin known old new before pending fault
-StopsAs (line_reports.Audit timing) form name margin known old new before pending fault = StopsAudit form name margin timing known old new before pending fault
+-- a strict audit has a remark
+pub record IsOfRemark (strict remarked : Bool) (fault : MonitorFault) : Type 0 where
+  pub cause : fault ≡ faults.Remarked
+  pub is_strict : strict ≡ true
+  pub is_remarked : remarked ≡ true
+
+-- then all of it is written and handed on
+pub record StopsAtRemark (choice : FollowChoice) (timing strict : Bool) (name : List ℕ) (known old new : Option (List ℕ)) (pending : List ℕ) (fault : MonitorFault) : Type 0 where
+  pub input : List ℕ
+  pub all : IfSome known (λ text. input ≡ text)
+  pub lines : List AuditLine
+  pub heard : AreHeard (form_as choice.form) name false 0 choice.margin (Audit timing false) input lines
+  pub put : Appends old new (lines_text choice.written lines)
+  pub handed : pending ≡ []
+  pub remark : IsOfRemark strict (has_remark lines) fault
+
+abbrev pub StopsAudit : FollowChoice → Bool → Bool → List ℕ → Option (List ℕ) → Option (List ℕ) → Option (List ℕ) → List ℕ → List ℕ → MonitorFault → Type 0
+StopsAudit choice timing strict name known old new before pending fault = StopsBefore choice timing name known old new before pending fault ⊎ StopsAtRemark choice timing strict name known old new pending fault
+
+abbrev pub StopsAs : FollowReport → FollowChoice → List ℕ → Option (List ℕ) → Option (List ℕ) → Option (List ℕ) → List ℕ → List ℕ → MonitorFault → Type 0
+StopsAs line_reports.Readings choice name known old new before pending fault = StopsSo choice name known old new before pending fault
+StopsAs (line_reports.Audit timing strict) choice name known old new before pending fault = StopsAudit choice timing strict name known old new before pending fault

@@ -1,2 +1,3 @@
 pub mod Captures
+pub mod Edges
 pub mod Following

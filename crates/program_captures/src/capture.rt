@@ -70,7 +70,7 @@ pub fn without_short(alloc: Global, glitch: u64, whole: Capture) -> Result<Captu
 
 // A capture as it is read: as it stands or of a probe that turns the level of the line, and without pulses and gaps that are too
 // short.
-fn as_read(
+pub(crate) fn as_read(
     alloc: Global,
     inverted: bool,
     glitch: u64,
@@ -198,7 +198,7 @@ fn is_strict(report: CaptureReport) -> bool
     }
 }
 
-fn fails(report: CaptureReport, remarked: bool) -> bool
+pub(crate) fn fails(report: CaptureReport, remarked: bool) -> bool
     ensures { result ≡ (is_strict report && remarked) }
 {
     is_strict(report) && remarked

@@ -1,14 +1,14 @@
 //! What is reported of a capture as its lines come.
-ghost use Rattle.std.specs.Prelude.{◌≡◌, IfErr, OnOk};
+ghost use Rattle.std.specs.Prelude.{◌≡◌, IfErr, OnOk, false, true};
 ghost use Rattle.cli_words.specs.declared.choice.FollowReport.TheVariants as reports;
 ghost use Rattle.text_core.specs.Buffered.{below, pending};
-ghost use Rattle.program_captures.specs.Following.{FollowsTo, IsCauseOf, StopsAs, StopsAudit, StopsSo, fault_of};
+ghost use Rattle.program_captures.specs.Following.{FollowsTo, IsCauseOf, IsOfRemark, StopsAs, StopsAudit, StopsSo, fault_of};
 
-use crate::capture::within_most;
+use crate::capture::{fails, within_most};
 use crate::fault::MonitorFault;
-use cli_words::FollowReport;
-use follow_audit::{FollowAuditError, follow_audit};
-use follow_core::{FollowError, LineForm, follow};
+use cli_words::{CaptureReport, FollowChoice, FollowReport};
+use follow_audit::{AuditView, FollowAuditError, follow_audit};
+use follow_core::{FollowError, follow};
 use line_reading::Windows;
 use std::alloc::{AllocError, Global};
 use std::io::Read;
@@ -39,62 +39,74 @@ fn audit_fault_of(error: FollowAuditError) -> MonitorFault
 
 // Writes the readings. Where a line is at fault, what is over by the lines before it is written and handed on.
 fn follow_readings<R: Read, W: Sink>(
-    form: LineForm,
+    choice: FollowChoice,
     signal: &[u8],
-    margin: u64,
     input: &mut R,
     out: &mut Buffered<W>,
 ) -> Result<(), MonitorFault>
-    ensures done { OnOk result (FollowsTo form signal.now margin reports.Readings (R.remaining input.old) (⟦<Buffered<W> as Sink>⟧.contents out.old) (W.contents (below out.new))) }
-    ensures stops { IfErr result (StopsSo form signal.now margin (R.remaining input.old) (⟦<Buffered<W> as Sink>⟧.contents out.old) (⟦<Buffered<W> as Sink>⟧.contents out.new) (pending out.old) (pending out.new)) }
+    ensures done { OnOk result (FollowsTo (record choice { report = reports.Readings }) signal.now (R.remaining input.old) (⟦<Buffered<W> as Sink>⟧.contents out.old) (W.contents (below out.new))) }
+    ensures stops { IfErr result (StopsSo choice signal.now (R.remaining input.old) (⟦<Buffered<W> as Sink>⟧.contents out.old) (⟦<Buffered<W> as Sink>⟧.contents out.new) (pending out.old) (pending out.new)) }
 {
-    let windows = Windows::wider(within_most(margin));
-    match follow(form, signal, windows, input, out) {
+    let windows = Windows::wider(within_most(choice.margin));
+    match follow(choice.form, signal, choice.written, windows, input, out) {
         Ok(()) => Ok(()),
         Err(error) => Err(fault_of(error)),
     }
 }
 
+// Fails where a remark makes a strict audit a fault. All of it is written then.
+fn end_audit(timing: bool, strict: bool, remarked: bool) -> Result<(), MonitorFault>
+    ensures done { OnOk result (strict ≡ true → remarked ≡ false) }
+    ensures stops { IfErr result (λ fault. IsOfRemark strict remarked fault) }
+{
+    if fails(CaptureReport::Audit { timing, strict }, remarked) {
+        return Err(MonitorFault::Remarked);
+    }
+    Ok(())
+}
+
 // Writes the audit.
 fn follow_remarks<R: Read, W: Sink>(
     alloc: Global,
-    form: LineForm,
-    signal: &[u8],
-    margin: u64,
+    choice: FollowChoice,
     timing: bool,
+    strict: bool,
+    signal: &[u8],
     input: &mut R,
     out: &mut Buffered<W>,
 ) -> Result<(), MonitorFault>
-    ensures done { OnOk result (FollowsTo form signal.now margin (reports.Audit timing) (R.remaining input.old) (⟦<Buffered<W> as Sink>⟧.contents out.old) (W.contents (below out.new))) }
-    ensures stops { IfErr result (StopsAudit form signal.now margin timing (R.remaining input.old) (⟦<Buffered<W> as Sink>⟧.contents out.old) (⟦<Buffered<W> as Sink>⟧.contents out.new) (pending out.old) (pending out.new)) }
+    ensures done { OnOk result (FollowsTo (record choice { report = reports.Audit timing strict }) signal.now (R.remaining input.old) (⟦<Buffered<W> as Sink>⟧.contents out.old) (W.contents (below out.new))) }
+    ensures stops { IfErr result (StopsAudit choice timing strict signal.now (R.remaining input.old) (⟦<Buffered<W> as Sink>⟧.contents out.old) (⟦<Buffered<W> as Sink>⟧.contents out.new) (pending out.old) (pending out.new)) }
 {
-    let windows = Windows::wider(within_most(margin));
-    match follow_audit(alloc, form, signal, windows, timing, input, out) {
-        Ok(()) => Ok(()),
+    let windows = Windows::wider(within_most(choice.margin));
+    let view = AuditView {
+        timing,
+        written: choice.written,
+    };
+    match follow_audit(alloc, choice.form, signal, windows, view, input, out) {
+        Ok(remarked) => end_audit(timing, strict, remarked),
         Err(error) => Err(audit_fault_of(error)),
     }
 }
 
 /// Writes each reading of a capture as soon as it is over by the lines that have come, of the wire of a name, or of the first where
-/// that is empty, as windows read it that are `margin` wider at either side, 300 at most, and hands it on before the next line is
-/// read; of an audit also what there is to remark, as soon as the edges that have come say all of it, and the summary at the end.
-/// Where a line is at fault, what was written by the lines before it stays.
+/// that is empty, as windows read it that are `margin` wider at either side, 300 at most: its line, or its object. It hands that on
+/// before the next line is read; of an audit also what there is to remark, as soon as the edges that have come say all of it, and the
+/// summary at the end. Where a line is at fault, what was written by the lines before it stays; where a remark is one, all is written.
 pub fn follow_capture<R: Read, W: Sink>(
     alloc: Global,
-    form: LineForm,
+    choice: FollowChoice,
     signal: &[u8],
-    margin: u64,
-    report: FollowReport,
     input: &mut R,
     out: &mut Buffered<W>,
 ) -> Result<(), MonitorFault>
-    ensures done { OnOk result (FollowsTo form signal.now margin report (R.remaining input.old) (⟦<Buffered<W> as Sink>⟧.contents out.old) (W.contents (below out.new))) }
-    ensures stops { IfErr result (StopsAs report form signal.now margin (R.remaining input.old) (⟦<Buffered<W> as Sink>⟧.contents out.old) (⟦<Buffered<W> as Sink>⟧.contents out.new) (pending out.old) (pending out.new)) }
+    ensures done { OnOk result (FollowsTo choice signal.now (R.remaining input.old) (⟦<Buffered<W> as Sink>⟧.contents out.old) (W.contents (below out.new))) }
+    ensures stops { IfErr result (StopsAs choice.report choice signal.now (R.remaining input.old) (⟦<Buffered<W> as Sink>⟧.contents out.old) (⟦<Buffered<W> as Sink>⟧.contents out.new) (pending out.old) (pending out.new)) }
 {
-    match report {
-        FollowReport::Readings => follow_readings(form, signal, margin, input, out),
-        FollowReport::Audit { timing } => {
-            follow_remarks(alloc, form, signal, margin, timing, input, out)
+    match choice.report {
+        FollowReport::Readings => follow_readings(choice, signal, input, out),
+        FollowReport::Audit { timing, strict } => {
+            follow_remarks(alloc, choice, timing, strict, signal, input, out)
         }
     }
 }
