@@ -2,6 +2,7 @@
 """tests/follow.py [PROGRAM]: writes captures into `hdminet mon --follow` piece by piece, and reads what it writes while the pipe is
 open, which no test of `rt ci` can. PROGRAM is crates/hdminet/out/hdminet, which ./hdminet builds, where none is given. The last line
 is 'follow: N passed, M failed'."""
+import json
 import os
 import random
 import select
@@ -148,6 +149,39 @@ def remarks_at_once():
     return right and (status, fault) == (0, '') and text.startswith('  all readings\n  from 4: 0 taken, 1 not taken, 0 broken\n')
 
 
+def objects_at_once():
+    """With --json each object comes when its line would, and with --strict the status comes at the end: the total of a bit is 1,100,
+    where 2,050 to 2,750 is right (CEC 5.2.2)."""
+    bus = Bus('edges', ('--audit', '--json', '--strict'))
+    for at, level in edges_of([(0x40, 1, 1)], 20000):
+        bus.send(edge_line(at, level))
+    right = bus.is_quiet()
+    bus.send(edge_line(80000, 0))
+    right = right and has_fields(bus.line(), line='20000 47150 complete 4>0 nack', type='reading', begin=20000, close=47150, ending='complete', initiator='4', destination='0', verdict='nack')
+    right = right and has_fields(bus.line(), line='  block 1 not acknowledged, attempt 1', type='note', note='attempt', block=1, verdict='nack', attempt=1) and bus.is_quiet()
+    for at, level in ((83700, 1), (84500, 0), (85100, 1)):
+        bus.send(edge_line(at, level))
+    right = right and bus.is_quiet()
+    bus.send(edge_line(85600, 0))
+    right = right and has_fields(bus.line(), line='80000 85600 short 1', type='reading', ending='short', bits='1') and bus.is_quiet()
+    bus.send(edge_line(89200, 1))
+    right = right and has_fields(bus.line(), line='  slot 1 block 1 bit 1 total 1100 not 2050..2750', type='remark', remark='bit-total', section='5.2.2', slot=1, block=1, bit=1, width=1100, least=2050, most=2750)
+    right = right and has_fields(bus.line(), line='  low drive 3600', type='remark', remark='low-drive', width=3600) and bus.is_quiet()
+    bus.send('100000 end\n')
+    right = right and bus.is_quiet()
+    bus.mon.stdin.close()
+    bus.mon.stdin = None
+    status, text, fault = bus.ended()
+    objects = [json.loads(line) for line in text.splitlines()]
+    return right and (status, fault) == (1, 'hdminet: the audit has a remark\n') and [o['type'] for o in objects[:2]] == ['summary', 'sender'] and objects[1]['not_taken'] == 1
+
+
+def has_fields(line, **fields):
+    """A line is an object with these fields."""
+    said = json.loads(line) if line else {}
+    return all(name in said and said[name] == value for name, value in fields.items())
+
+
 def random_capture(form, number):
     """The lines of a capture of frames, broken frames and pulses."""
     r = random.Random(number)
@@ -175,10 +209,13 @@ def random_capture(form, number):
     return text + ['%d end\n' % (edges[-1][0] + r.randrange(0, 20000))]
 
 
+ASKED = [('--from-start',), ('--audit',), ('--timing',), ('--from-start', '--json'), ('--audit', '--json'), ('--audit', '--strict'), ('--timing', '--json', '--strict')]
+
+
 def is_text_of_the_whole():
     """What is written is the text of the whole, with the same status and the same fault; before a fault it is a front. So is an
     audit."""
-    return all(is_whole(form, number, asked) for form in ('edges', 'pin', 'csv') for number in range(40) for asked in (('--from-start',), ('--audit',), ('--timing',)))
+    return all(is_whole(form, number, asked) for form in ('edges', 'pin', 'csv') for number in range(40) for asked in ASKED)
 
 
 def is_whole(form, number, asked):
@@ -189,7 +226,7 @@ def is_whole(form, number, asked):
     for line in lines:
         bus.send(line)
     status, text, fault = bus.ended()
-    if (status, text) != want[:2] or fault:
+    if (status, text) != want[:2] or fault != (want[2] if status else ''):
         return False
     broken = lines[:len(lines) // 2] + ['frob\n'] + lines[len(lines) // 2:]
     old = watched(form, ''.join(broken), *flags)
@@ -221,7 +258,7 @@ def fails_to_write():
 
 def takes_no_memory():
     """An hour of a busy bus leaves the program as small as it was, with an audit too."""
-    return is_small(()) and is_small(('--audit',))
+    return is_small(()) and is_small(('--audit',)) and is_small(('--audit', '--json', '--strict'))
 
 
 def is_small(flags):
@@ -241,7 +278,7 @@ def is_small(flags):
 
 def main():
     failed = 0
-    tests = [reads_edges_at_once, reads_pins_at_once, reads_rows_at_once, remarks_at_once, is_text_of_the_whole, has_faults, fails_to_write, takes_no_memory]
+    tests = [reads_edges_at_once, reads_pins_at_once, reads_rows_at_once, remarks_at_once, objects_at_once, is_text_of_the_whole, has_faults, fails_to_write, takes_no_memory]
     for test in tests:
         right = test()
         failed += not right

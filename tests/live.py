@@ -14,7 +14,7 @@ TOP = os.path.dirname(os.path.dirname(os.path.realpath(__file__)))
 PROGRAM = os.path.realpath(sys.argv[1]) if len(sys.argv) > 1 else os.path.join(TOP, 'crates/hdminet/out/hdminet')
 ROOM = 'device tv tv 4\ndevice p1 player 0\nplug p1 tv 1\nscript\n'
 SEAT = 'device tv tv 2\ndevice p1 player 0\ndevice dut outside 0\nplug p1 tv 1\nplug dut tv 2\nscript\n'
-OWN = ('run', 'wait', 'show', 'edge', 'edges')
+OWN = ('run', 'wait', 'show', 'edge', 'edges', 'seats')
 
 
 class Session:
@@ -46,7 +46,7 @@ class Session:
         self.send(line + '\n')
         told, answer = self.answer()
         self.script.append('' if line.split(' ')[0] in OWN or answer[:1] != '=' else line)
-        self.trace += [line for line in told if line[0] != '~']
+        self.trace += [line for line in told if line[0] not in '~*']
         self.edges += [line for line in told if line[0] == '~']
         return answer
 
@@ -122,7 +122,7 @@ def objects():
             text, got = read(told.live.stdout.readline())
             right = right and text == each and got is not None
             kinds.add(got['type'])
-            trace += [got] if each[0] not in '=!~' else []
+            trace += [got] if each[0] not in '=!~*' else []
         # After the last line the pipe is closed, which is no quiet.
         right = right and (line.startswith('end ') or told.is_quiet(0.01))
     script = ['' if line.split(' ')[0] in OWN or line == 'frob' or line.endswith(' frob') else line for line in lines]
@@ -175,7 +175,7 @@ def is_trace(text, start):
                     break
                 now = int(answer.split()[1])
             elif kind == 3:
-                s.ask(numbers.choice(['edges on', 'edges off', 'edge x', 'edge %d' % now]))
+                s.ask(numbers.choice(['edges on', 'edges off', 'seats on', 'seats off', 'wait %d' % now, 'edge x', 'edge %d' % now]))
             else:
                 now = numbers.randint(now, max(now, instant(line)))
                 s.ask('run to %d' % now)

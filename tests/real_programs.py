@@ -282,6 +282,16 @@ def test_adapter_itself(tests, program):
     ran.forget()
 
 
+def test_several_addresses(tests, program):
+    """An adapter of three types has an address of each: of players and recorders the second, as another one has the first."""
+    command = 'cec-ctl --playback --tuner --record >/dev/null; "{0}" show dut'.format(INSIDE)
+    ran = Ran(program, "play", ["dut"], ["bash", "-c", command])
+    state = re.search(r"^= state dut .*$", ran.out, re.M)
+    tests.expect("an adapter of three types holds three addresses", state and sorted(state[0].split()[4].split("+")) == ["2", "3", "8"], ran.out + ran.err)
+    tests.expect("the script of three addresses gives the trace", ran.is_replayed(program))
+    ran.forget()
+
+
 def test_two_seats(tests, program):
     """cec-follower is the television, cec-compliance a player, and the amplifier between is emulated; twice, with one trace."""
     command = """cec-ctl -d0 --tv >/dev/null; cec-ctl -d1 --playback >/dev/null
@@ -462,6 +472,7 @@ def main():
     test_descriptors(tests, program)
     test_workflow(tests, program)
     test_adapter_itself(tests, program)
+    test_several_addresses(tests, program)
     test_two_seats(tests, program)
     test_rooms(tests, program)
     test_suite(tests, started)

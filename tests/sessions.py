@@ -26,8 +26,8 @@ ODD = ['frob', 'show nobody', 'run to x', 'edge', 'pin 5 2', '', ' wait', '# a',
 def between(numbers, now, name):
     """A line of a session's own, or a pulse, at an instant about now."""
     at = now + numbers.choice([0, 0, 1, 600, 2400, 30_000, numbers.randrange(1_000_000)])
-    return numbers.choice(['run to %d' % at, 'edge %d' % at, 'edge %d' % at, 'wait', 'show ' + name, 'edges on', 'edges off', 'pulse %d 600' % at,
-                           'pin %d 0' % at, 'pin %d 1' % at, numbers.choice(ODD)])
+    return numbers.choice(['run to %d' % at, 'edge %d' % at, 'edge %d' % at, 'wait', 'wait %d' % at, 'show ' + name, 'edges on', 'edges off', 'seats on',
+                           'pulse %d 600' % at, 'pin %d 0' % at, 'pin %d 1' % at, numbers.choice(ODD)])
 
 
 def session(number):

@@ -34,7 +34,8 @@ SETS = {
     'run': [['--edges', '--as', 'vcd', '--drives'], ['--edges', '--as', 'vcd', '--drives', '--named'], ['--json', '--room', '--strict', '--explain']],
     'mon': [['--audit', '--json', '--strict'], ['--timing', '--json', '--fold'],
             ['--timing', '--margin', '20', '--glitch', '50', '--from-start', '--strict', '--json']]
-    + [['--from', form, '--follow', flag] for form in FORMS for flag in ('--audit', '--timing', '--from-start')],
+    + [['--from', form, '--follow', flag] for form in FORMS for flag in ('--audit', '--timing', '--from-start', '--json')]
+    + [['--from', form, '--follow', '--audit', '--json', '--strict'] for form in FORMS],
     'check': [['--capture', '--from', 'edges', '--json'], ['--capture', '--glitch', '50', '--signal', 'CEC'], ['--trace', '--json', '--progress']],
     'edid': [['--port', '2', '--below', 'amp', '--raw'], ['--port', '2', '--below', 'amp', '--speakers', 'own'], ['--text', '--check', '--explain'],
              ['--words', '--meaning', '--explain'], ['--hex', '--nth', '1', '--meaning'], ['--merge', '--rows', 'video=own,audio=keep', '--raw'],

@@ -128,7 +128,7 @@ function bytesOf(finding, edid) {
   if (same) return all(same);
   const placed = /^data block (\d+) of extension (\d+)$/.exec(here);
   if (placed) return some([parts.filter(one => Math.floor(one.from / BLOCK) === Number(placed[2]))[Number(placed[1]) - 1]]);
-  const code = /^video code (\d+)$/.exec(here);
+  const code = /^video code (\d+)(?:,|$)/.exec(here);
   const codeOf = ({ value, meaning }) => (meaning === 'native' ? value - NATIVE : value);
   const isCode = field => field.name === 'SVD' && codeOf(field) === Number(code[1]);
   if (code) return fields.filter(isCode).map(({ at }) => at);

@@ -69,9 +69,9 @@ class Room:
             if got[0] in "=!":
                 break
             told.append(got)
-        is_own = line.split(" ")[0] in ("run", "wait", "show", "edge", "edges")
+        is_own = line.split(" ")[0] in ("run", "wait", "show", "edge", "edges", "seats")
         self.script.append("" if is_own or got[0] == "!" else line)
-        self.trace += [line for line in told if line[0] != "~"]
+        self.trace += [line for line in told if line[0] not in "~*"]
         return told, got.rstrip("\n")
 
     def is_of_run(self):

@@ -39,7 +39,7 @@ CODES = {
     65: "topology: no-root", 66: "topology: port-range", 67: "topology: port-taken", 68: "topology: not-loose",
     69: "topology: loop", 70: "topology: hex",
     80: "script: word", 81: "script: number", 82: "script: name", 83: "script: width", 84: "script: order",
-    85: "script: close", 86: "script: too-many", 87: "script: end",
+    85: "script: close", 86: "script: too-many", 87: "script: end", 88: "script: hex",
     90: "expect: word", 91: "expect: number", 92: "expect: label", 93: "expect: order",
     100: "edges: line", 101: "edges: order",
 }

@@ -10,7 +10,7 @@ from . import calls, homes
 from .reports import Refused
 
 # The lines of a session that are none of its script.
-_OWN = ("run", "wait", "show", "edge", "edges")
+_OWN = ("run", "wait", "show", "edge", "edges", "seats")
 # What is said where a session is asked after its end.
 _OVER = "the session is over"
 
@@ -31,12 +31,14 @@ class LineRefused(ValueError):
 
 
 class Answered(NamedTuple):
-    """What a line was answered: the edges and the lines of the trace that were told, the answer, and whether nothing comes any more."""
+    """What a line was answered: the edges and the lines of the trace that were told, the answer, whether nothing comes any more, and the
+    notes that were told, without their mark."""
 
     edges: List[Edge]
     told: List[str]
     answer: str
     is_idle: bool
+    notes: List[str]
 
 
 class _OfProgram:
@@ -124,11 +126,13 @@ class Room:
             self._live = _OfProgram(text, program or homes.program())
 
     def _answered(self, line: str, got: List[str]) -> Answered:
-        edges, told = [], []
+        edges, told, notes = [], [], []
         for one in got[:-1]:
             words = one.split(" ")
             if words[0] == "~":
                 edges.append(Edge(int(words[1]), int(words[2])))
+            elif words[0] == "*":
+                notes.append(one[2:])
             else:
                 told.append(one)
         words = got[-1].split(" ")
@@ -138,7 +142,7 @@ class Room:
             raise LineRefused(int(words[1]), " ".join(words[2:]), line)
         if words[1].isdecimal():
             self.horizon = int(words[1])
-        return Answered(edges, told, got[-1], words[-1] == "idle")
+        return Answered(edges, told, got[-1], words[-1] == "idle", notes)
 
     @calls.taking
     def ask(self, line: Any) -> Answered:
@@ -212,6 +216,11 @@ class Room:
     def wait(self) -> bool:
         """Goes on by one turn, an event or a round. Returns whether there was one."""
         return not self.ask("wait").is_idle
+
+    @calls.taking
+    def wait_until(self, time: int) -> Answered:
+        """Goes on by one turn, at most to an instant. Returns what was told."""
+        return self.ask("wait %d" % time)
 
     @calls.taking
     def state(self, name: str) -> str:

@@ -16,8 +16,8 @@ from room import Seat
 ATTEMPTS, POLL_ATTEMPTS = 4, 2
 # How often an address is polled while each attempt is broken.
 CLAIM_ATTEMPTS = 6
-# `hold` of a room takes two addresses, and the adapters of Linux have one, three or four.
-MOST_ADDRESSES = 1
+# The most logical addresses that a seat holds.
+MOST_ADDRESSES = 4
 # How many frames wait to be sent, how many messages a handle keeps, and how many edges.
 MOST_PENDING, MOST_MESSAGES, MOST_EDGES = 18, 54, 800
 DEFAULT_REPLY_TIME = 1_000

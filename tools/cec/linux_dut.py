@@ -47,8 +47,8 @@ class SeatOfSuite:
         self.horizon, self.script, self.seats, self.edge_listeners = 0, [], {}, []
         self.physical, self.does = None, []
 
-    def text_of(self, frame):
-        return bytes(frame).hex()
+    def hand_in(self, name, frame, attempts):
+        return self.event("send %s %s attempts %d" % (name, frame.hex(), attempts))
 
     def event(self, words, label=None):
         verb, _, *rest = words.split(" ")
@@ -115,7 +115,7 @@ class LinuxDevice:
         SHARED_CLOCK.pack_into(self.server.shared, 0, Clock.MONOTONIC * 10**9, Clock.REALTIME * 10**9, room.horizon)
         if verb == "address":
             room.physical = None if rest[0] == "-" else rest[0]
-            self.seat.is_moved = True
+            self.seat.place = room.physical
         elif verb in ("frame", "sent"):
             self.seat.hear({"type": "round", "ending": "complete", "by": [SEAT] if verb == "sent" else ["another"], "out": [],
                             "bytes": rest[1], "verdict": rest[2], "close": room.horizon})

@@ -23,7 +23,7 @@ VALUES = {
     FIRMWARE: b"\x00\x0c", BUILD_DATE: struct.pack(">I", 1_623_000_000), AUTO_ENABLED: b"\x01", DEVICE_TYPE: b"\x04", ADDRESS_MASK: b"\x01\x10",
     PHYSICAL: b"\x10\x00", VERSION: b"\x04", DEFAULT_ADDRESS: b"\x05", OSD_NAME: b"CEC Adapter", ADAPTER_TYPE: b"\x01", AUTO_POWER: b"\x00",
 }
-MOST_BYTES, MOST_ADDRESSES = 16, 2
+MOST_BYTES, MOST_ADDRESSES = 16, 4
 
 
 class PulseEight:

@@ -12,14 +12,13 @@ from typing import Any
 
 from linux_cec import INVALID_PHYSICAL, TX_ARB_LOST, TX_ERROR, TX_LOW_DRIVE, TX_NACK, TX_OK
 
-# How far one step goes, in microseconds, while a seat sends: a frame that failed begins again at the earliest 5,000 after the round
-# is told, so that the seat can still take it back; and while none does.
-SENDING_STEP, QUIET_STEP = 2_500, 10_000
 # A sender that stops in these first bits of a frame has lost the arbitration (CEC 9).
 INITIATOR_BITS = 4
 BITS_OF_A_BLOCK = 10
 # The lines of a session itself, which no script has.
-OWN_LINES = ("run", "wait", "show", "edge", "edges")
+OWN_LINES = ("run", "wait", "show", "edge", "edges", "seats")
+# Where a device is plugged in, before that was asked.
+UNKNOWN = ""
 
 
 class Refused(Exception):
@@ -57,7 +56,7 @@ class Room:
         self.script, self.trace, self.labels = [], [], {}
         # The next microsecond that is open, and the lines of the room's own script that are still to come.
         self.horizon, self.waiting = 0, collections.deque(script)
-        self.seats, self.texts = {}, {}
+        self.seats = {}
         # Who is told each edge; the EDID of each port; where each device is plugged in.
         self.edge_listeners, self.edids, self.parents = [], {}, {}
         for line in topology:
@@ -67,6 +66,7 @@ class Room:
         self.live = subprocess.Popen([program, "live", "--json", "--explain"], stdin=subprocess.PIPE, stdout=subprocess.PIPE, bufsize=0)
         self.unread = b""
         self.write("".join(line + "\n" for line in topology) + "script\n")
+        self.ask("seats on")
 
     def write(self, text):
         try:
@@ -109,25 +109,20 @@ class Room:
             for listener in list(self.edge_listeners):
                 listener(told["at"], told["level"])
             return
-        self.trace.append(told["line"])
+        if told["line"][0] != "*":
+            self.trace.append(told["line"])
         if told["type"] == "port":
             self.edids[told["device"], told["port"]] = bytes.fromhex(told["edid"])
         for seat in self.seats.values():
             seat.hear(told)
 
-    def text_of(self, frame):
-        """The text of a frame, as `send` takes it."""
-        frame = bytes(frame)
-        if frame not in self.texts:
-            spelled = subprocess.run([self.program, "dis"], input=frame.hex() + "\n", capture_output=True, text=True).stdout.rstrip("\n")
-            quoted = spelled.rfind('"') + 1
-            # The remark of `dis` begins at the last ` # ` after the text in quotes.
-            self.texts[frame] = spelled[:quoted] + spelled[quoted:].split(" # ")[0]
-        return self.texts[frame]
-
     def event(self, words, label=None):
         """An event at the horizon."""
         return self.ask("at %d %s" % (self.horizon, words), label)
+
+    def hand_in(self, name, frame, attempts):
+        """A device sends a frame, with so many attempts in all."""
+        return self.event("send %s attempts %d hex %s" % (name, attempts, frame.hex()))
 
     def go(self, until):
         """Goes on up to an instant, with the lines of the room's own script at their times."""
@@ -140,9 +135,8 @@ class Room:
             self.step(until)
 
     def step(self, until):
-        is_sending = any(seat.sending for seat in self.seats.values())
-        self.horizon = min(until, self.horizon + (SENDING_STEP if is_sending else QUIET_STEP))
-        self.ask("run to %d" % self.horizon)
+        """Goes on to where one more event or round is over, at most to an instant."""
+        self.horizon = self.ask("wait %d" % until)["at"]
         for seat in self.seats.values():
             seat.settle()
 
@@ -153,7 +147,7 @@ class Room:
                 self.write("end %d\n" % (self.horizon + 1))
                 self.live.stdin.close()
                 rest = self.unread + self.live.stdout.read()
-                self.trace += [told["line"] for told in map(json.loads, rest.splitlines()) if not told["line"].startswith("=")]
+                self.trace += [told["line"] for told in map(json.loads, rest.splitlines()) if told["line"][0] not in "=*"]
             except (Refused, OSError, ValueError):
                 self.live.kill()
         self.live.wait()
@@ -202,10 +196,10 @@ class Clock:
 
 
 class Sending:
-    """A frame on its way: how many attempts are left, and how those that failed did."""
+    """A frame on its way: how many attempts it has, how many of them are left, and how those that failed did."""
 
     def __init__(self, frame, attempts, tag):
-        self.frame, self.attempts, self.tag, self.line = bytes(frame), attempts, tag, 0
+        self.frame, self.attempts, self.left, self.tag, self.line = bytes(frame), attempts, attempts, tag, 0
         self.failed = {TX_ARB_LOST: 0, TX_NACK: 0, TX_LOW_DRIVE: 0, TX_ERROR: 0}
 
 
@@ -216,8 +210,9 @@ class Seat:
         self.room, self.name = room, name
         self.queue: collections.deque[Sending] = collections.deque()
         self.sending: Sending | None = None
-        self.physical, self.is_moved = INVALID_PHYSICAL, True
-        self.to_drop = self.to_send_again = False
+        # Where it is plugged in, once that is known, and what its user was told.
+        self.place: str | None = UNKNOWN
+        self.physical = INVALID_PHYSICAL
         self.on_sent: Callable[[Any, int, dict, int], None] = lambda *_: None
         self.on_frame: Callable[[dict], None] = lambda *_: None
         self.on_place: Callable[[int], None] = lambda *_: None
@@ -231,13 +226,13 @@ class Seat:
         self.next()
 
     def next(self):
-        if self.sending is None and self.queue and not self.to_drop:
+        if self.sending is None and self.queue:
             self.sending = self.queue.popleft()
             self.hand()
 
     def hand(self):
         self.sending.line = len(self.room.script) + 1
-        if self.room.event("send %s %s" % (self.name, self.room.text_of(self.sending.frame)))["type"] == "refusal":
+        if self.room.hand_in(self.name, self.sending.frame, self.sending.attempts)["type"] == "refusal":
             self.done(TX_ERROR, self.room.horizon)
 
     def done(self, status, at):
@@ -246,9 +241,11 @@ class Seat:
 
     def hear(self, told):
         if told["type"] == "event":
-            self.is_moved = True
             if told["cause"] and self.sending and told["script_line"] == self.sending.line:
                 self.done(TX_ERROR, told["at"])
+        elif told["type"] == "moved":
+            if told["device"] == self.name:
+                self.place = told["physical_address"]
         elif told["type"] == "round":
             self.hear_round(told)
 
@@ -275,32 +272,20 @@ class Seat:
     def attempt_failed(self, why, at):
         sending = self.sending
         sending.failed[why] += 1
-        sending.attempts -= 1
-        if sending.attempts <= 0:
-            # The room sends a frame six times, and a poll once.
-            self.to_drop = len(sending.frame) > 1
+        sending.left -= 1
+        if not sending.left:
             self.done(why, at)
-        elif len(sending.frame) == 1 and why == TX_NACK:
-            self.to_send_again = True
 
     def settle(self):
         """After a step: what can't be said while the session answers."""
-        if self.to_drop:
-            self.to_drop = False
-            self.room.event("drop " + self.name)
-        if self.to_send_again:
-            self.to_send_again = False
-            if self.sending:
-                self.hand()
-        if self.is_moved:
-            self.is_moved = False
-            self.look()
+        self.look()
         self.next()
 
     def look(self):
-        """Asks where the device is plugged in, and tells it where that is new."""
-        place = self.room.ask("show " + self.name)["physical_address"]
-        physical = INVALID_PHYSICAL if place in (None, "f.f.f.f") else int(place.replace(".", ""), 16)
+        """Tells the device where it is plugged in, where that is new. At first it asks."""
+        if self.place is UNKNOWN:
+            self.place = self.room.ask("show " + self.name)["physical_address"]
+        physical = INVALID_PHYSICAL if self.place in (None, "f.f.f.f") else int(self.place.replace(".", ""), 16)
         if physical != self.physical:
             self.physical = physical
             self.on_place(physical)

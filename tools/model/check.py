@@ -168,20 +168,29 @@ class Timing:
 
 
 def limits(b, four):
-    """(least, greatest) fields a second and thousands of lines a second, and the greatest clock, of each range descriptor"""
+    """(least, greatest, whether no rate is above it) of fields a second and of thousands of lines a second, and the greatest clock, of each
+    range descriptor"""
     for i in range(4):
         d = b[54 + 18 * i:72 + 18 * i]
         if d[:3] == b'\0\0\0' and d[3] == 0xFD:
             bits_v, bits_h = (d[4] & 3, d[4] >> 2 & 3) if four else (0, 0)
-            up = lambda bits, low, high: (low + 255 * (bits == 3), high + 255 * (bits >= 2))
+            up = lambda bits, low, high: (low + 255 * (bits == 3), high + 255 * (bits >= 2), not four and high == 255)
             yield up(bits_v, d[5], d[6]), up(bits_h, d[7], d[8]), d[9]
+
+
+def begins_with_override(ext):
+    """the first data block of an extension is the HDMI Forum's override of the count of extensions"""
+    if ext is None or not ext['d'] or not ext['blocks']:
+        return False
+    _, tag, data = ext['blocks'][0]
+    return tag == 7 and bytes(data[:1]) == b'\x78'
 
 
 def is_outside(span, count, per):
     """a rate of count / per is a unit and more outside"""
     if per == 0 or span[1] == 0 or span[1] < span[0]:
         return False
-    return count <= (span[0] - 1) * per or count >= (span[1] + 1) * per
+    return count <= (span[0] - 1) * per or not span[2] and count >= (span[1] + 1) * per
 
 
 def is_pace_outside(b, four, clock, pixels, half_lines):
@@ -202,7 +211,7 @@ def is_standard_outside(b, four, first, second):
         return False
     width, rate = 8 * (first + 31), 60 + (second & 63)
     height = width * (10, 3, 4, 9)[second >> 6] // (16, 4, 5, 16)[second >> 6]
-    return any(is_outside(fields, rate, 1) or lines[0] <= lines[1] != 0 and height * rate >= 1000 * (lines[1] + 1)
+    return any(is_outside(fields, rate, 1) or lines[0] <= lines[1] != 0 and not lines[2] and height * rate >= 1000 * (lines[1] + 1)
                for fields, lines, _ in limits(b, four))
 
 
@@ -347,7 +356,7 @@ def edid_findings(e, is_port):
     pairs = [(b[38 + 2 * i], b[39 + 2 * i]) for i in range(8)]
     if any(x < 2 and (x, y) != (1, 1) for x, y in pairs):
         yield 'fail', 'standard-unused-form'
-    if not four and len(raws) > 1 and raws[0][0] != 0xF0:
+    if not four and len(raws) > 1 and raws[0][0] != 0xF0 and not begins_with_override(exts[0]):
         yield 'fail', 'block-map'
     if four and hdmi:
         yield 'warn', 'hdmi-of-1.3'

@@ -253,11 +253,18 @@ def addresses(topo):
 def send_named(r, line, names):
     """a script's line; of a `send`, names now and then in the place of addresses"""
     w = line.split(' ')
-    if len(w) < 5 or w[2] != 'send' or r.random() < .7 or not re.fullmatch('[0-9a-f]>[0-9a-f]', w[4]): return line
+    if len(w) < 5 or w[2] != 'send' or not re.fullmatch('[0-9a-f]>[0-9a-f]', w[4]): return line
+    given = ['attempts', str(r.choice([1, 2, 4, 6, r.randrange(1, 7)]))] if r.random() < .2 else []
+    if r.random() < .1:
+        try:
+            return ' '.join(w[:4] + given + ['hex', r.choice(['', ':', ' ']).join('%02x' % x for x in wire.assemble(' '.join(w[4:]).encode()))])
+        except Exception:
+            pass
+    if r.random() < .7: return ' '.join(w[:4] + given + w[4:])
     a, b = w[4].split('>')
     if r.random() < .7: a = '@' + (w[3] if r.random() < .9 else r.choice(names))
     if r.random() < .6 and (b != 'f' or r.random() < .1): b = '@' + r.choice(names)
-    return ' '.join(w[:4] + [a + '>' + b] + w[5:])
+    return ' '.join(w[:4] + given + [a + '>' + b] + w[5:])
 
 
 def gen_act(r, name, las, near):
@@ -268,7 +275,8 @@ def gen_act(r, name, las, near):
         a = '%x' % r.choice((las or [4]) + [0, 4, 8, 14]) if r.random() < .7 else '%x' % r.randrange(15)
         b = '%x' % r.randrange(14)
         a = 'e' if a == 'f' else a
-        return 'hold %s %s' % (name, r.choice([a, a, '-', a + '+' + (b if b != a else 'e' if a != 'e' else '0')]))
+        many = r.sample('0123456789abcde', r.choice([3, 4]))
+        return 'hold %s %s' % (name, r.choice([a, a, '-', a + '+' + (b if b != a else 'e' if a != 'e' else '0'), '+'.join(many)]))
     src = r.choice((las or [4]) + [4, 8, 15, None])
     if k < .55: return 'send %s %x>%x' % (name, *[r.choice([4, 8, 0, 5])] * 2)
     return 'send %s %s' % (name, gen_frame(r, src, r.choice((las or [0]) + [15, None]), near))
@@ -1139,7 +1147,7 @@ def gen_odd(r):
                        'end 5', 'end', 'end 1000000000001', 'end 1000000000000', 'end 01', 'end x', 'end ', 'pulse 5 0', 'pulse 5 1', 'pulse 5 3001', 'pulse 1000000000001 1', 'pulse 5', 'pulse 5 99999999999999999999999', 'pulse 5 01', 'pulse  5', 'pull 5 0', 'pull 5 1', 'pull 5 10000000', 'pull 5 10000001', 'pull 1000000000001 1', 'pull 5', 'pull 5 99999999999999999999999', 'pull 5 01', 'pull  5', 'pin 5 0', 'pin 5 1', 'pin 5 2', 'pin 5 01', 'pin 1000000000001 0', 'pin 1000000000000 0', 'pin 5', 'pin  0', 'pin 05 0',
                        'at 5 plug p1 tv', 'at 5 plug p1 tv x', 'at 5 unplug', 'at 5 unplug x', 'at 5 unplug ', 'at 5 press tv', 'at 5 press tv ', 'at 5 press tv power ', 'at 5 press tv watch 1.0.0', 'at 5 press tv port 01', 'at 5 press tv port x', 'at 5 press x port x', 'at 5 press x power',
                        'at 5 press tv language EN', 'at 5 press tv language deu', 'at 5 press tv remote f play', 'at 5 press tv remote 0 play', 'at 5 press tv remote 4 frob', 'at 5 press tv remote 4', 'at 5 press tv audio', 'at 5 press tv audio up', 'at x press x play',
-                       'at 5 send tv', 'at 5 send tv ', 'at 5 send tv 0>f', 'at 5 send x 0>g', 'at 5 send tv 0>g', 'at 5 send tv 0>4 frob', 'at 5 send tv 0>4 play', 'at 5 send tv 0>4 play :24', 'at 5 send tv 0>4 play :' + '00' * 15, 'at 5 send tv @tv>4 image-view-on', 'at 5 send tv 0>@tv image-view-on', 'at 5 send tv @tv>@p1 standby', 'at 5 send tv @tv>f standby', 'at 5 send tv @>4', 'at 5 send tv @x>g', 'at 5 send tv @tv', 'at 5 send tv @tv>', 'at 5 send tv @tv>>4', 'at 5 send tv 00>@tv', 'at 5 send tv @tv>@tv>0', 'at 5 send tv F>@x', 'at 5 send x @x>@x', 'at 5 send tv @x>4 frob', 'at 5 send tv @tv>4 frob', 'at 5 send tv @tv>4 standby 1', 'at 5 send tv @tv>4 ', 'at 5 send tv  @tv>4', 'at 5 send tv @tv>f :' + '00' * 15, 'at 1000000000001 send tv 0>4', 'at 99999999999 send tv 0>g', 'at 5', 'at', 'script', 'steps', 'edge', 'until opcode 84'])
+                       'at 5 send tv', 'at 5 send tv ', 'at 5 send tv attempts', 'at 5 send tv attempts 4', 'at 5 send tv attempts 0 0>4', 'at 5 send tv attempts 7 hex 04', 'at 5 send tv attempts 6 hex 04:36', 'at 5 send x hex 4', 'at 5 send tv hex', 'at 5 send tv hex 4', 'at 5 send tv hex 0x04 36', 'at 5 send tv hex 04 attempts 4', 'at 5 hold tv 1+2+3+4', 'at 5 hold tv 1+2+3+1', 'at 5 hold tv 1+2+3+4+5', 'at 5 send tv 0>f', 'at 5 send x 0>g', 'at 5 send tv 0>g', 'at 5 send tv 0>4 frob', 'at 5 send tv 0>4 play', 'at 5 send tv 0>4 play :24', 'at 5 send tv 0>4 play :' + '00' * 15, 'at 5 send tv @tv>4 image-view-on', 'at 5 send tv 0>@tv image-view-on', 'at 5 send tv @tv>@p1 standby', 'at 5 send tv @tv>f standby', 'at 5 send tv @>4', 'at 5 send tv @x>g', 'at 5 send tv @tv', 'at 5 send tv @tv>', 'at 5 send tv @tv>>4', 'at 5 send tv 00>@tv', 'at 5 send tv @tv>@tv>0', 'at 5 send tv F>@x', 'at 5 send x @x>@x', 'at 5 send tv @x>4 frob', 'at 5 send tv @tv>4 frob', 'at 5 send tv @tv>4 standby 1', 'at 5 send tv @tv>4 ', 'at 5 send tv  @tv>4', 'at 5 send tv @tv>f :' + '00' * 15, 'at 1000000000001 send tv 0>4', 'at 99999999999 send tv 0>g', 'at 5', 'at', 'script', 'steps', 'edge', 'until opcode 84'])
         ls = ls[:i] + [sp] + ls[i:]
         d = '\n'.join(ls).encode('latin1', 'replace')
     return a, d

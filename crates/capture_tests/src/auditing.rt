@@ -1,30 +1,34 @@
 //! Captures that are followed with their audit: when each part of it is written. The rows are worked out from docs/formats.md ("Audit
 //! of a capture").
 use crate::following::{Driver, Told, form_of, spelled, with_end};
-use follow_audit::{FollowAuditError, follow_audit};
+use follow_audit::{AuditView, FollowAuditError, follow_audit};
 use line_reading::Windows;
+use record_core::Form;
 use std::cell::RefCell;
 use std::process::Abort;
 use text_core::{Buffered, Writes};
 
 /// `FORM:MARGIN TEXT => SAID END` as in `following`; `csv-NAME` is the form with a name of the wire, `edges+timing` that with the widths
-/// of each reading. `NACKED` are the slots of a poll of the television by address 4 that nobody acknowledges; `MEANS` is what the
-/// summary has of the widths of `POLL`, `OF n m` that of n ones and m zeros.
+/// of each reading, `edges+json` that with objects in the place of lines. `END` is `!` where the audit has a remark. `NACKED` are the
+/// slots of a poll of the television by address 4 that nobody acknowledges; `MEANS` is what the summary has of the widths of `POLL`,
+/// `OF n m` that of n ones and m zeros.
 const ROWS: &str = "\
 # What there is to remark comes with the next fall, or with the end.
-edges:0 12000 0|12300 1|40000 end => >>12000 12300 bad-start -|>  start low 300 not 3500..3900|  all readings| .
-edges:0 12000 0|12300 1|20000 0|20300 1|40000 end => >>12000 12300 bad-start -|>  start low 300 not 3500..3900|>20000 20300 bad-start -|>  all readings| .
+edges:0 12000 0|12300 1|40000 end => >>12000 12300 bad-start -|>  start low 300 not 3500..3900|  all readings| !
+edges:0 12000 0|12300 1|20000 0|20300 1|40000 end => >>12000 12300 bad-start -|>  start low 300 not 3500..3900|>20000 20300 bad-start -|>  all readings| !
 edges:0 POLL|38700 1|39150 end => >>>>>>>>>>>>>>>>>>>>>>>12000 39150 complete 0>0 nack|  all readings|  from 0: 0 taken, 1 not taken, 0 broken|  start low 3700..3700 mean 3700 of 1|MEANS| .
-edges:0 12000 0|15700 1|NACKED|38700 1|50000 0|50300 1|60000 end => >>>>>>>>>>>>>>>>>>>>>>>12000 39150 complete 4>0 nack|  block 1 not acknowledged, attempt 1|>50000 50300 bad-start -|>  start low 300 not 3500..3900|  all readings|  from 4: 0 taken, 1 not taken, 0 broken|  start low 3700..3700 mean 3700 of 1|OF 3 7| .
+edges:0 12000 0|15700 1|NACKED|38700 1|50000 0|50300 1|60000 end => >>>>>>>>>>>>>>>>>>>>>>>12000 39150 complete 4>0 nack|  block 1 not acknowledged, attempt 1|>50000 50300 bad-start -|>  start low 300 not 3500..3900|  all readings|  from 4: 0 taken, 1 not taken, 0 broken|  start low 3700..3700 mean 3700 of 1|OF 3 7| !
 # How long a low drive was is known with its rise.
-edges:0 12000 0|15700 1|16500 0|17100 1|17500 0|21100 1|40000 end => >>>>>12000 17500 short -|>  slot 1 block 1 bit 1 total 1000 not 2050..2750|  low drive 3600|>  all readings|  start low 3700..3700 mean 3700 of 1|  start total 4500..4500 mean 4500 of 1|  one low 600..600 mean 600 of 1|  bit total 1000..1000 mean 1000 of 1| .
+edges:0 12000 0|15700 1|16500 0|17100 1|17500 0|21100 1|40000 end => >>>>>12000 17500 short -|>  slot 1 block 1 bit 1 total 1000 not 2050..2750|  low drive 3600|>  all readings|  start low 3700..3700 mean 3700 of 1|  start total 4500..4500 mean 4500 of 1|  one low 600..600 mean 600 of 1|  bit total 1000..1000 mean 1000 of 1| !
 # By wider windows a start bit that is low for 3,950 is one, and is remarked.
-edges:100 12000 0|15950 1|SLOTS|38700 1|90000 0|90300 1|99000 end => >>>>>>>>>>>>>>>>>>>>>>>12000 39150 complete 0>0 nack|  start low 3950 not 3500..3900|>90000 90300 bad-start -|>  start low 300 not 3500..3900|  all readings|  from 0: 0 taken, 1 not taken, 0 broken|  start low 3950..3950 mean 3950 of 1|MEANS| .
+edges:100 12000 0|15950 1|SLOTS|38700 1|90000 0|90300 1|99000 end => >>>>>>>>>>>>>>>>>>>>>>>12000 39150 complete 0>0 nack|  start low 3950 not 3500..3900|>90000 90300 bad-start -|>  start low 300 not 3500..3900|  all readings|  from 0: 0 taken, 1 not taken, 0 broken|  start low 3950..3950 mean 3950 of 1|MEANS| !
 # The widths of each reading too.
 edges+timing:0 POLL|38700 1|60000 end => >>>>>>>>>>>>>>>>>>>>>>>12000 39150 complete 0>0 nack|  start low 3700..3700 mean 3700 of 1|MEANS|  all readings|  from 0: 0 taken, 1 not taken, 0 broken|  start low 3700..3700 mean 3700 of 1|MEANS| .
 # Pin events and rows: an edge is known with the next line.
-pin:0 START|100.012000000 0|100.012300000 1|100.013000000 3|100.020000000 0|100.020300000 1|100.040000000 1 => >>>>12000 12300 bad-start -|>>  start low 300 not 3500..3900|>20000 20300 bad-start -|  all readings| .
-csv-CEC:0 Time [s],HPD, CEC|0.0,1,1|0.012,0,0|0.0123,1,1|0.02,1,1|0.03,1,0|0.0303,1,1|0.04,1,1 => >>>>>12000 12300 bad-start -|>>  start low 300 not 3500..3900|>30000 30300 bad-start -|  all readings| .
+pin:0 START|100.012000000 0|100.012300000 1|100.013000000 3|100.020000000 0|100.020300000 1|100.040000000 1 => >>>>12000 12300 bad-start -|>>  start low 300 not 3500..3900|>20000 20300 bad-start -|  all readings| !
+csv-CEC:0 Time [s],HPD, CEC|0.0,1,1|0.012,0,0|0.0123,1,1|0.02,1,1|0.03,1,0|0.0303,1,1|0.04,1,1 => >>>>>12000 12300 bad-start -|>>  start low 300 not 3500..3900|>30000 30300 bad-start -|  all readings| !
+# The objects come where their lines do.
+edges+json:0 12000 0|12300 1|20000 0|20300 1|40000 end => >>{\"line\":\"12000 12300 bad-start -\",\"type\":\"reading\",\"begin\":12000,\"close\":12300,\"ending\":\"bad-start\",\"bits\":null}|>{\"line\":\"  start low 300 not 3500..3900\",\"type\":\"remark\",\"remark\":\"start-low\",\"section\":\"5.2.1\",\"width\":300,\"least\":3500,\"most\":3900}|>{\"line\":\"20000 20300 bad-start -\",\"type\":\"reading\",\"begin\":20000,\"close\":20300,\"ending\":\"bad-start\",\"bits\":null}|>{\"line\":\"  all readings\",\"type\":\"summary\"}| !
 # Nothing came.
 pin:0 =>   all readings| .
 csv:0 Time [s],CEC => >  all readings| .
@@ -43,9 +47,10 @@ const NACKED: &str =
 const MEANS: &str = "OF 2 8";
 
 /// How a capture that was followed ended.
-fn end_text(rt: &(impl Abort + AllocGlobal), end: &Result<(), FollowAuditError>) -> String {
+fn end_text(rt: &(impl Abort + AllocGlobal), end: &Result<bool, FollowAuditError>) -> String {
     match end {
-        Ok(()) => format!(in rt.alloc(); ".").expect(rt, "an end"),
+        Ok(false) => format!(in rt.alloc(); ".").expect(rt, "an end"),
+        Ok(true) => format!(in rt.alloc(); "!").expect(rt, "an end"),
         Err(error) => format!(in rt.alloc(); "{error}").expect(rt, "a fault"),
     }
 }
@@ -59,7 +64,7 @@ fn said_of(
     room: usize,
 ) -> String {
     let (form, signal) = form.split_once('-').unwrap_or((form, ""));
-    let (form, timing) = form.split_once('+').unwrap_or((form, ""));
+    let (form, view) = form.split_once('+').unwrap_or((form, ""));
     let said = RefCell::new(Vec::new(rt.alloc()));
     let mut driver = Driver {
         rest: text,
@@ -71,7 +76,14 @@ fn said_of(
         form_of(form),
         signal.as_bytes(),
         Windows::wider(margin.min(300)),
-        timing == "timing",
+        AuditView {
+            timing: view == "timing",
+            written: if view == "json" {
+                Form::Json
+            } else {
+                Form::Text
+            },
+        },
         &mut driver,
         &mut out,
     );

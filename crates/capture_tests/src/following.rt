@@ -1,6 +1,7 @@
 //! Captures that are followed, over a reader that gives one line at each read and a writer that notes when it was written to.
 use follow_core::{FollowError, LineForm, follow};
 use line_reading::Windows;
+use record_core::Form;
 use std::cell::RefCell;
 use std::io::{self, ErrorKind, Read, Write};
 use std::process::Abort;
@@ -180,6 +181,7 @@ fn said_of(
     let end = follow(
         form,
         signal,
+        Form::Text,
         Windows::wider(margin.min(300)),
         &mut driver,
         &mut out,

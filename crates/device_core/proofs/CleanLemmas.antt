@@ -11,9 +11,10 @@ use Rattle.line_frames.specs.declared.Fate.{Fate}
 use Rattle.line_frames.specs.declared.Fate.TheVariants.{Delivered, Unacked, Lost, Broken}
 use Rattle.line_frames.specs.declared.free_time.FreeTime.TheVariants.{Retry}
 use Rattle.device_core.specs.declared.device.Queued.{Queued}
+use Rattle.device_core.specs.declared.device.Ticket.{Ticket}
 use Rattle.device_core.specs.State.{State, addresses_held, holds, with_queued, speaks, may_speak, source, frame_of, one_more}
 use Rattle.device_features.specs.Kinds.{is_switch, type_of}
-use Rattle.device_core.specs.Place.{sent_by, polled_at, frame_sent, after_front, after_failure, with_reports, reported_by, reported_from, place_after_fate, front_is_poll, class_of_poll}
+use Rattle.device_core.specs.Place.{sent_by, polled_at, frame_sent, after_front, after_failure, with_reports, reported_by, reported_from, place_after_fate, front_is_counted, front_is_poll, most_again, class_of_poll}
 use Rattle.device_core.specs.Once.{goes_elsewhere}
 use Rattle.std.proofs.lemmas.Bool.Decides.{nat_tests}
 use Rattle.device_core.specs.declared.device.SubmitError.TheVariants.{QueueFull, OwnAddress, NoAddress, OffWire}
@@ -75,11 +76,11 @@ elsewhere p from to h k = rw (header from to h) (ap not k)
 
 clean-one_more : (p : Place) (kind : Kind) (phys : Phys) (from to at : ℕ) (bytes : List ℕ) (queue : List Queued) → to < 16
     → (not (may_speak kind phys p) || holds p to) ≡ false → clean_at p queue ≡ true
-    → clean_at p (queue ++ record { frame = frame_of from to bytes; ready = at } ∷ []) ≡ true
+    → clean_at p (queue ++ record { frame = frame_of from to bytes; ready = at; ticket = None } ∷ []) ≡ true
 clean-one_more Off kind phys from to at bytes queue s h k = cc
 clean-one_more (Polls found a) kind phys from to at bytes queue s h k = cc
 clean-one_more (Settled first second) kind phys from to at bytes queue s h k =
-    let mine : List Queued = record { frame = frame_of from to bytes; ready = at } ∷ [] in
+    let mine : List Queued = record { frame = frame_of from to bytes; ready = at; ticket = None } ∷ [] in
     list_all-append (λ (q : Queued). goes_elsewhere (Settled first second) q.frame) queue mine
     ∙ both _ _ k (both _ true (elsewhere (Settled first second) from to s (or_right _ _ h)) refl)
 
@@ -96,7 +97,7 @@ two false x y h k = k
 clean-queued : (limit at from to : ℕ) (bytes : List ℕ) (d : State) → to < 16 → is_clear d ≡ true → is_clear (with_queued limit at from to bytes d) ≡ true
 clean-queued limit at from to bytes d s k =
     three (not (speaks d) || holds d.place to) (nat_lt (length d.queue) limit) d
-    (record d { queue = d.queue ++ record { frame = frame_of from to bytes; ready = at } ∷ [] }) (record d { dropped = one_more d.dropped })
+    (record d { queue = d.queue ++ record { frame = frame_of from to bytes; ready = at; ticket = None } ∷ [] }) (record d { dropped = one_more d.dropped })
     k (λ h. clean-one_more d.place d.kind d.phys from to at bytes d.queue s h k) k
 
 clean-reported_from : (limit at : ℕ) (unit : Option ℕ) (d : State) → is_clear d ≡ true → is_clear (reported_from limit at unit d) ≡ true
@@ -117,10 +118,10 @@ clean-ended d [] k = k
 clean-ended d (q ∷ queue) k = clean-tail d.place q queue k
 
 clean-failed : (d : State) → is_clear d ≡ true → is_clear (after_failure d) ≡ true
-clean-failed d k = two (nat_lt d.attempts 5) (record d { attempts = d.attempts + 1; class = Retry }) (after_front d) k (clean-ended d d.queue k)
+clean-failed d k = two (nat_lt d.attempts (most_again d.queue)) (record d { attempts = d.attempts + 1; class = Retry }) (after_front d) k (clean-ended d d.queue k)
 
 clean-frame_sent : (fate : Fate) (d : State) → is_clear d ≡ true → is_clear (frame_sent d fate) ≡ true
-clean-frame_sent Lost d k = k
+clean-frame_sent Lost d k = two (front_is_counted d.queue) (after_failure d) d (clean-failed d k) k
 clean-frame_sent Delivered d k = clean-ended d d.queue k
 clean-frame_sent Unacked d k = two (front_is_poll d.queue) (after_front d) (after_failure d) (clean-ended d d.queue k) (clean-failed d k)
 clean-frame_sent Broken d k = two (front_is_poll d.queue) (record d { class = Retry }) (after_failure d) k (clean-failed d k)
@@ -198,23 +199,23 @@ clean-front (Settled first second) (q ∷ queue) frame k f e =
     subst (λ (x : List ℕ). goes_elsewhere (Settled first second) x ≡ true) same (and_left _ _ k)
 
 -- what a submitted frame passed
-clean-appended : (p : Place) (frame : List ℕ) (at : ℕ) (queue : List Queued) → settled_at p (slice_index frame 0 / 16) ≡ true
-    → holds p (slice_index frame 0 % 16) ≡ false → clean_at p queue ≡ true → clean_at p (queue ++ record { frame = frame; ready = at } ∷ []) ≡ true
-clean-appended Off frame at queue s h k = cc
-clean-appended (Polls found a) frame at queue s h k = cc
-clean-appended (Settled first second) frame at queue s h k =
-    let mine : List Queued = record { frame = frame; ready = at } ∷ [] in
+clean-appended : (p : Place) (frame : List ℕ) (ticket : Ticket) (at : ℕ) (queue : List Queued) → settled_at p (slice_index frame 0 / 16) ≡ true
+    → holds p (slice_index frame 0 % 16) ≡ false → clean_at p queue ≡ true → clean_at p (queue ++ record { frame = frame; ready = at; ticket = Some ticket } ∷ []) ≡ true
+clean-appended Off frame ticket at queue s h k = cc
+clean-appended (Polls found a) frame ticket at queue s h k = cc
+clean-appended (Settled first second) frame ticket at queue s h k =
+    let mine : List Queued = record { frame = frame; ready = at; ticket = Some ticket } ∷ [] in
     list_all-append (λ (q : Queued). goes_elsewhere (Settled first second) q.frame) queue mine ∙ both _ _ k (both _ true (ap not h) refl)
 
-pub clean-by_tests : (off at_address own room : Bool) (d : State) (frame : List ℕ) (at : ℕ)
+pub clean-by_tests : (off at_address own room : Bool) (d : State) (frame : List ℕ) (ticket : Ticket) (at : ℕ)
     → settled_at d.place (slice_index frame 0 / 16) ≡ at_address → holds d.place (slice_index frame 0 % 16) ≡ own → is_clear d ≡ true
-    → is_clear (submitted_by d frame at (if off then Some OffWire else (if not at_address then Some NoAddress else (
+    → is_clear (submitted_by d frame ticket at (if off then Some OffWire else (if not at_address then Some NoAddress else (
     if own then Some OwnAddress else (if room then None else Some QueueFull))))) ≡ true
-clean-by_tests true n o r d frame at s h k = k
-clean-by_tests false false o r d frame at s h k = k
-clean-by_tests false true true r d frame at s h k = k
-clean-by_tests false true false false d frame at s h k = k
-clean-by_tests false true false true d frame at s h k = clean-appended d.place frame at d.queue s h k
+clean-by_tests true n o r d frame ticket at s h k = k
+clean-by_tests false false o r d frame ticket at s h k = k
+clean-by_tests false true true r d frame ticket at s h k = k
+clean-by_tests false true false false d frame ticket at s h k = k
+clean-by_tests false true false true d frame ticket at s h k = clean-appended d.place frame ticket at d.queue s h k
 
 -- ---- who moves
 
@@ -255,15 +256,15 @@ keyed-place limit at key press d None =
     effected-place limit (own_doing at) (if press then pressing d.kind d.phys d.record_of key else releasing d.kind d.record_of key) d
 keyed-place limit at key press d (Some fault) = refl
 
-submitted-place : (d : State) (frame : List ℕ) (at : ℕ) (fault : Option SubmitError) → (submitted_by d frame at fault).place ≡ d.place
-submitted-place d frame at None = refl
-submitted-place d frame at (Some fault) = refl
+submitted-place : (d : State) (frame : List ℕ) (ticket : Ticket) (at : ℕ) (fault : Option SubmitError) → (submitted_by d frame ticket at fault).place ≡ d.place
+submitted-place d frame ticket at None = refl
+submitted-place d frame ticket at (Some fault) = refl
 
 pub keeps_place : KeepsPlace
 keeps_place = record {
   following = followed-place;
   keying = λ limit at key press d. keyed-place limit at key press d (key_fault d key);
-  submitting = λ limit at frame d. submitted-place d frame at (submit_fault limit d frame);
+  submitting = λ limit at frame ticket d. submitted-place d frame ticket at (submit_fault limit d frame);
   waiting = λ d. refl;
   reporting = λ limit at fate d h. rw h (frame_sent-place d fate);
 }

@@ -6,6 +6,7 @@ use Rattle.text_core.specs.declared.kind.Kind.TheVariants.{Tv, Amp, Player, Reco
 use Rattle.device_core.specs.declared.place.Place.{Place}
 use Rattle.device_core.specs.declared.place.Place.TheVariants.{Polls}
 use Rattle.device_features.specs.Kinds.{addresses, is_in, is_outside, recorders, second_addresses}
+use Rattle.device_core.specs.declared.device.Ticket.{Ticket}
 use Rattle.device_core.specs.State.{State, holds, is_held}
 use Rattle.device_core.specs.Place.{is_off, settled_at, start_place, submitted_by}
 use Rattle.device_core.specs.declared.device.SubmitError.TheVariants.{QueueFull, OwnAddress, NoAddress, OffWire}
@@ -59,12 +60,12 @@ clear : (d : State) → is_clean d ≡ true → clean_at d.place d.queue ≡ tru
 clear d k = and_right (is_listed d) (clean_at d.place d.queue) k
 
 -- a frame that is handed to a device that is not from outside
-clean-inside : (limit : ℕ) (outside : Bool) → outside ≡ false → (d : State) (frame : List ℕ) (at : ℕ) → clean_at d.place d.queue ≡ true
-    → is_clear (submitted_by d frame at (if is_off d.place then Some OffWire else (if not (outside || settled_at d.place (slice_index frame 0 / 16)) then Some NoAddress else (
+clean-inside : (limit : ℕ) (outside : Bool) → outside ≡ false → (d : State) (frame : List ℕ) (ticket : Ticket) (at : ℕ) → clean_at d.place d.queue ≡ true
+    → is_clear (submitted_by d frame ticket at (if is_off d.place then Some OffWire else (if not (outside || settled_at d.place (slice_index frame 0 / 16)) then Some NoAddress else (
     if not outside && holds d.place (slice_index frame 0 % 16) then Some OwnAddress else (if nat_lt (length d.queue) limit then None else Some QueueFull))))) ≡ true
-clean-inside limit true e d frame at k = cc
-clean-inside limit false e d frame at k =
-    clean-by_tests (is_off d.place) (settled_at d.place (slice_index frame 0 / 16)) (holds d.place (slice_index frame 0 % 16)) (nat_lt (length d.queue) limit) d frame at refl refl k
+clean-inside limit true e d frame ticket at k = cc
+clean-inside limit false e d frame ticket at k =
+    clean-by_tests (is_off d.place) (settled_at d.place (slice_index frame 0 / 16)) (holds d.place (slice_index frame 0 % 16)) (nat_lt (length d.queue) limit) d frame ticket at refl refl k
 
 pub keeps_clean : KeepsClean
 keeps_clean = record {
@@ -73,7 +74,7 @@ keeps_clean = record {
       (clean-reported limit at (put_on number at phys d) (clean-empty (start_place d.kind phys)));
   reporting = λ limit at fate d k. both _ _ (holds_listed.reporting limit at fate d (listed d k)) (clean-sent limit at fate d d.place refl (clear d k));
   waiting = λ d k. k;
-  submitting = λ limit at frame d own k. both _ _ (holds_listed.submitting limit at frame d (listed d k)) (clean-inside limit (is_outside d.kind) own d frame at (clear d k));
+  submitting = λ limit at frame ticket d own k. both _ _ (holds_listed.submitting limit at frame ticket d (listed d k)) (clean-inside limit (is_outside d.kind) own d frame ticket at (clear d k));
   following = λ limit at frame d k. both _ _ (holds_listed.following limit at frame d (listed d k)) (clean-followed limit at frame d (clear d k));
   keying = λ limit at key press d k. both _ _ (holds_listed.keying limit at key press d (listed d k)) (clean-keyed limit at key press d (key_fault d key) (clear d k));
   sending = λ d frame k e. clean-front d.place d.queue frame (clear d k) (front_elsewhere d d.place refl (listed d k)) e;

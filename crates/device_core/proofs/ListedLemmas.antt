@@ -242,8 +242,8 @@ holds_listed = record {
   reporting = λ limit at fate d h. at_place (after_sending limit d fate at) d.kind (place_after_fate d.kind d.place fate) (sent-same limit at fate d (polled_at d.place)).1
       (place_goes_by_fates.reporting limit at fate d) (step_listed d.kind d.place fate h);
   waiting = λ d h. h;
-  submitting = λ limit at frame d h. at_place (after_submission limit d frame at) d.kind d.place (submitted-same d frame at (submit_fault limit d frame)).1
-      (keeps_place.submitting limit at frame d) h;
+  submitting = λ limit at frame ticket d h. at_place (after_submission limit d frame ticket at) d.kind d.place (submitted-same d frame ticket at (submit_fault limit d frame)).1
+      (keeps_place.submitting limit at frame ticket d) h;
   following = λ limit at frame d h. at_place (after_frame limit d frame at) d.kind d.place (followed-same limit at frame d).1 (keeps_place.following limit at frame d) h;
   keying = λ limit at key press d h. at_place (after_key limit d key press at) d.kind d.place (keyed-same limit at key press d (key_fault d key)).1
       (keeps_place.keying limit at key press d) h;

@@ -15,6 +15,7 @@ use Rattle.line_frames.specs.declared.free_time.FreeTime.TheVariants.{Retry}
 use Rattle.device_features.specs.declared.keys.Key.{Key}
 use Rattle.device_core.specs.declared.keys.KeyError.{KeyError}
 use Rattle.device_core.specs.declared.device.SubmitError.{SubmitError}
+use Rattle.device_core.specs.declared.device.Ticket.{Ticket}
 use Rattle.device_core.specs.State.{State, addresses_held, holds, with_queued, source, speaks, frame_of, one_more}
 use Rattle.device_features.specs.Kinds.{addresses, is_nowhere, is_outside, is_switch, second_addresses, type_of}
 use Rattle.device_core.specs.Say.{say, say_all, after_effect}
@@ -25,7 +26,7 @@ use Rattle.device_core.specs.Effects.{by_decoded, after_frame, is_for}
 use Rattle.device_features.specs.Effects.{effect_of, refuses, heard_of}
 use Rattle.device_core.specs.Keys.{own_doing, keyed_by, key_fault}
 use Rattle.device_features.specs.Keys.{pressing, releasing}
-use Rattle.device_core.specs.Place.{tries, unregistered, start_place, fresh, with_reports, reported_by, reported_from, after_joining, place_after_fate, polled_at, class_of_poll, after_front, after_failure, front_is_poll, frame_sent, sent_by, submitted_by, submit_fault, is_off}
+use Rattle.device_core.specs.Place.{tries, unregistered, start_place, fresh, with_reports, reported_by, reported_from, after_joining, place_after_fate, polled_at, class_of_poll, after_front, after_failure, front_is_counted, front_is_poll, most_again, frame_sent, sent_by, submitted_by, submit_fault, is_off}
 use Rattle.device_core.specs.declared.outside.Act.{Act}
 use Rattle.device_core.specs.declared.outside.Act.TheVariants.{Hold, Empty}
 use Rattle.device_core.specs.declared.keys.KeyError.TheVariants.{NotForKind, OffWire}
@@ -83,13 +84,13 @@ two false d x y p q = q
 queued-same : (limit at from to : ℕ) (bytes : List ℕ) (d : State) → Same (with_queued limit at from to bytes d) d
 queued-same limit at from to bytes d =
     three (not (speaks d) || holds d.place to) (nat_lt (length d.queue) limit) d
-    (record d { queue = d.queue ++ record { frame = frame_of from to bytes; ready = at } ∷ [] }) (record d { dropped = one_more d.dropped }) (refl, refl) (refl, refl)
+    (record d { queue = d.queue ++ record { frame = frame_of from to bytes; ready = at; ticket = None } ∷ [] }) (record d { dropped = one_more d.dropped }) (refl, refl) (refl, refl)
 
 failed-same : (d : State) → Same (after_failure d) d
-failed-same d = two (nat_lt d.attempts 5) d (record d { attempts = d.attempts + 1; class = Retry }) (after_front d) (refl, refl) (refl, refl)
+failed-same d = two (nat_lt d.attempts (most_again d.queue)) d (record d { attempts = d.attempts + 1; class = Retry }) (after_front d) (refl, refl) (refl, refl)
 
 frame_sent-same : (d : State) (fate : Fate) → Same (frame_sent d fate) d
-frame_sent-same d Lost = (refl, refl)
+frame_sent-same d Lost = two (front_is_counted d.queue) d (after_failure d) d (failed-same d) (refl, refl)
 frame_sent-same d Delivered = (refl, refl)
 frame_sent-same d Unacked = two (front_is_poll d.queue) d (after_front d) (after_failure d) (refl, refl) (failed-same d)
 frame_sent-same d Broken = two (front_is_poll d.queue) d (record d { class = Retry }) (after_failure d) (refl, refl) (failed-same d)
@@ -150,9 +151,9 @@ keyed-same limit at key press d None =
     effected-same limit (own_doing at) (if press then pressing d.kind d.phys d.record_of key else releasing d.kind d.record_of key) d
 keyed-same limit at key press d (Some fault) = (refl, refl)
 
-pub submitted-same : (d : State) (frame : List ℕ) (at : ℕ) (fault : Option SubmitError) → Same (submitted_by d frame at fault) d
-submitted-same d frame at None = (refl, refl)
-submitted-same d frame at (Some fault) = (refl, refl)
+pub submitted-same : (d : State) (frame : List ℕ) (ticket : Ticket) (at : ℕ) (fault : Option SubmitError) → Same (submitted_by d frame ticket at fault) d
+submitted-same d frame ticket at None = (refl, refl)
+submitted-same d frame ticket at (Some fault) = (refl, refl)
 
 -- a device that is put onto the wire
 abbrev pub put_on : ℕ → ℕ → Phys → State → State
@@ -171,7 +172,7 @@ numbers_stay = record {
   joining = λ limit number at phys d. (joined-same limit number at phys d).0;
   reporting = λ limit at fate d. (sent-same limit at fate d (polled_at d.place)).0;
   waiting = λ d. refl;
-  submitting = λ limit at frame d. (submitted-same d frame at (submit_fault limit d frame)).0;
+  submitting = λ limit at frame ticket d. (submitted-same d frame ticket at (submit_fault limit d frame)).0;
   following = λ limit at frame d. (followed-same limit at frame d).0;
   keying = λ limit at key press d. (keyed-same limit at key press d (key_fault d key)).0;
 }
@@ -182,14 +183,14 @@ acted-kind d act = by (is_off d.place) (is_outside d.kind) act
     by : (off outside : Bool) (act : Act) → (acted_by d (if off then Some OffWire else (if outside then None else Some NotForKind)) act).kind ≡ d.kind
     by true outside act = refl
     by false false act = refl
-    by false true (Hold first second) = refl
+    by false true (Hold first second more) = refl
     by false true Empty = refl
 
 pub kinds_stay : KeepsKind
 kinds_stay = record {
   joining = λ limit number at phys d. (joined-same limit number at phys d).1;
   reporting = λ limit at fate d. (sent-same limit at fate d (polled_at d.place)).1;
-  submitting = λ limit at frame d. (submitted-same d frame at (submit_fault limit d frame)).1;
+  submitting = λ limit at frame ticket d. (submitted-same d frame ticket at (submit_fault limit d frame)).1;
   following = λ limit at frame d. (followed-same limit at frame d).1;
   keying = λ limit at key press d. (keyed-same limit at key press d (key_fault d key)).1;
   acting = acted-kind;

@@ -9,7 +9,7 @@ use Rattle.line_frames.specs.declared.Fate.TheVariants.{Delivered, Unacked, Lost
 use Rattle.line_frames.specs.declared.free_time.FreeTime.TheVariants.{Retry}
 use Rattle.device_core.specs.State.{State, addresses_held, holds, is_held, with_queued, speaks, frame_of, one_more}
 use Rattle.device_features.specs.Kinds.{is_switch, second_addresses, type_of}
-use Rattle.device_core.specs.Place.{begins, settles, place_after_fate, list_of, with_reports, reported_by, reported_from, sent_by, polled_at, frame_sent, after_front, after_failure, tries, tries_after, place_after_poll, front_is_poll, class_of_poll}
+use Rattle.device_core.specs.Place.{begins, settles, place_after_fate, list_of, with_reports, reported_by, reported_from, sent_by, polled_at, frame_sent, after_front, after_failure, tries, tries_after, place_after_poll, front_is_counted, front_is_poll, most_again, class_of_poll}
 use Rattle.device_core.specs.Once.{AddressesAreFound, Devices, IsFair, after_fate, FatesKeepOnce}
 
 -- one of three states, all at the same place
@@ -26,7 +26,7 @@ two false d x y p q = q
 pub queued-place : (limit at from to : ℕ) (bytes : List ℕ) (d : State) → (with_queued limit at from to bytes d).place ≡ d.place
 queued-place limit at from to bytes d =
     three (not (speaks d) || holds d.place to) (nat_lt (length d.queue) limit) d
-    (record d { queue = d.queue ++ record { frame = frame_of from to bytes; ready = at } ∷ [] }) (record d { dropped = one_more d.dropped }) refl refl
+    (record d { queue = d.queue ++ record { frame = frame_of from to bytes; ready = at; ticket = None } ∷ [] }) (record d { dropped = one_more d.dropped }) refl refl
 
 pub reported_from-place : (limit at : ℕ) (unit : Option ℕ) (d : State) → (reported_from limit at unit d).place ≡ d.place
 reported_from-place limit at None d = refl
@@ -42,10 +42,10 @@ pub reported-place : (limit at : ℕ) (d : State) → (with_reports limit at d).
 reported-place limit at d = reported_by-place limit at (addresses_held d.place) d
 
 failed-place : (d : State) → (after_failure d).place ≡ d.place
-failed-place d = two (nat_lt d.attempts 5) d (record d { attempts = d.attempts + 1; class = Retry }) (after_front d) refl refl
+failed-place d = two (nat_lt d.attempts (most_again d.queue)) d (record d { attempts = d.attempts + 1; class = Retry }) (after_front d) refl refl
 
 pub frame_sent-place : (d : State) (fate : Fate) → (frame_sent d fate).place ≡ d.place
-frame_sent-place d Lost = refl
+frame_sent-place d Lost = two (front_is_counted d.queue) d (after_failure d) d (failed-place d) refl
 frame_sent-place d Delivered = refl
 frame_sent-place d Unacked = two (front_is_poll d.queue) d (after_front d) (after_failure d) refl (failed-place d)
 frame_sent-place d Broken = two (front_is_poll d.queue) d (record d { class = Retry }) (after_failure d) refl (failed-place d)

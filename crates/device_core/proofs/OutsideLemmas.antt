@@ -48,7 +48,7 @@ number d act = by (is_off d.place) (is_outside d.kind) act
     by : (off outside : Bool) (act : Act) → (acted_by d (if off then Some OffWire else (if outside then None else Some NotForKind)) act).number ≡ d.number
     by true outside act = refl
     by false false act = refl
-    by false true (Hold first second) = refl
+    by false true (Hold first second more) = refl
     by false true Empty = refl
 
 wire : (d : State) (act : Act) → is_on_wire (after_act d act) ≡ is_on_wire d
@@ -58,7 +58,7 @@ wire d act = by (is_off d.place) (is_outside d.kind) act refl
         → is_on_wire (acted_by d (if off then Some OffWire else (if outside then None else Some NotForKind)) act) ≡ is_on_wire d
     by true outside act e = refl
     by false false act e = refl
-    by false true (Hold first second) e = sym (ap not e)
+    by false true (Hold first second more) e = sym (ap not e)
     by false true Empty e = refl
 
 -- ---- what it does not do

@@ -7,6 +7,7 @@ use Rattle.device_core.specs.declared.place.Place.TheVariants.{Off, Polls, Settl
 use Rattle.text_core.specs.declared.phys.Phys.{Phys}
 use Rattle.line_frames.specs.declared.Fate.{Fate}
 use Rattle.device_core.specs.declared.device.Queued.{Queued}
+use Rattle.device_core.specs.declared.device.Ticket.{Ticket}
 use Rattle.device_core.specs.State.{State, holds}
 use Rattle.device_core.specs.Place.{after_sending, polled_at, after_waiting, after_joining, after_leaving, after_submission, front_of}
 use Rattle.device_core.specs.Effects.{after_frame}
@@ -37,7 +38,7 @@ pub record KeepsClean : Type 0 where
   pub joining : (limit number at : ℕ) (phys : Phys) (d : State) → is_clean (after_joining limit d number phys at) ≡ true
   pub reporting : (limit at : ℕ) (fate : Fate) (d : State) → is_clean d ≡ true → is_clean (after_sending limit d fate at) ≡ true
   pub waiting : (d : State) → is_clean d ≡ true → is_clean (after_waiting d) ≡ true
-  pub submitting : (limit at : ℕ) (frame : List ℕ) (d : State) → is_outside d.kind ≡ false → is_clean d ≡ true → is_clean (after_submission limit d frame at) ≡ true
+  pub submitting : (limit at : ℕ) (frame : List ℕ) (ticket : Ticket) (d : State) → is_outside d.kind ≡ false → is_clean d ≡ true → is_clean (after_submission limit d frame ticket at) ≡ true
   pub following : (limit at : ℕ) (frame : List ℕ) (d : State) → is_clean d ≡ true → is_clean (after_frame limit d frame at) ≡ true
   pub keying : (limit at : ℕ) (key : Key) (press : Bool) (d : State) → is_clean d ≡ true → is_clean (after_key limit d key press at) ≡ true
   pub sending : (d : State) (frame : List ℕ) → is_clean d ≡ true → front_of d ≡ Some frame → goes_elsewhere d.place frame ≡ true
@@ -48,7 +49,7 @@ pub record KeepsClean : Type 0 where
 pub record KeepsPlace : Type 0 where
   pub following : (limit at : ℕ) (frame : List ℕ) (d : State) → (after_frame limit d frame at).place ≡ d.place
   pub keying : (limit at : ℕ) (key : Key) (press : Bool) (d : State) → (after_key limit d key press at).place ≡ d.place
-  pub submitting : (limit at : ℕ) (frame : List ℕ) (d : State) → (after_submission limit d frame at).place ≡ d.place
+  pub submitting : (limit at : ℕ) (frame : List ℕ) (ticket : Ticket) (d : State) → (after_submission limit d frame ticket at).place ≡ d.place
   pub waiting : (d : State) → (after_waiting d).place ≡ d.place
   pub reporting : (limit at : ℕ) (fate : Fate) (d : State) → polled_at d.place ≡ None → (after_sending limit d fate at).place ≡ d.place
 
@@ -62,7 +63,7 @@ pub record KeepsNumber : Type 0 where
   pub joining : (limit number at : ℕ) (phys : Phys) (d : State) → (after_joining limit d number phys at).number ≡ number
   pub reporting : (limit at : ℕ) (fate : Fate) (d : State) → (after_sending limit d fate at).number ≡ d.number
   pub waiting : (d : State) → (after_waiting d).number ≡ d.number
-  pub submitting : (limit at : ℕ) (frame : List ℕ) (d : State) → (after_submission limit d frame at).number ≡ d.number
+  pub submitting : (limit at : ℕ) (frame : List ℕ) (ticket : Ticket) (d : State) → (after_submission limit d frame ticket at).number ≡ d.number
   pub following : (limit at : ℕ) (frame : List ℕ) (d : State) → (after_frame limit d frame at).number ≡ d.number
   pub keying : (limit at : ℕ) (key : Key) (press : Bool) (d : State) → (after_key limit d key press at).number ≡ d.number
 
@@ -70,7 +71,7 @@ pub record KeepsNumber : Type 0 where
 pub record KeepsKind : Type 0 where
   pub joining : (limit number at : ℕ) (phys : Phys) (d : State) → (after_joining limit d number phys at).kind ≡ d.kind
   pub reporting : (limit at : ℕ) (fate : Fate) (d : State) → (after_sending limit d fate at).kind ≡ d.kind
-  pub submitting : (limit at : ℕ) (frame : List ℕ) (d : State) → (after_submission limit d frame at).kind ≡ d.kind
+  pub submitting : (limit at : ℕ) (frame : List ℕ) (ticket : Ticket) (d : State) → (after_submission limit d frame ticket at).kind ≡ d.kind
   pub following : (limit at : ℕ) (frame : List ℕ) (d : State) → (after_frame limit d frame at).kind ≡ d.kind
   pub keying : (limit at : ℕ) (key : Key) (press : Bool) (d : State) → (after_key limit d key press at).kind ≡ d.kind
   pub acting : (d : State) (act : Act) → (after_act d act).kind ≡ d.kind

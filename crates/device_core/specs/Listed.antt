@@ -8,6 +8,7 @@ use Rattle.device_core.specs.declared.place.Place.TheVariants.{Off, Polls, Settl
 use Rattle.line_frames.specs.declared.Fate.{Fate}
 use Rattle.device_features.specs.declared.keys.Key.{Key}
 use Rattle.device_features.specs.Kinds.{addresses, is_in, second_addresses}
+use Rattle.device_core.specs.declared.device.Ticket.{Ticket}
 use Rattle.device_core.specs.State.{State, addresses_held, holds}
 use Rattle.device_core.specs.Place.{after_sending, after_waiting, after_joining, after_leaving, after_submission}
 use Rattle.device_core.specs.Effects.{after_frame}
@@ -39,7 +40,7 @@ pub record HoldsListed : Type 0 where
   pub joining : (limit number at : ℕ) (phys : Phys) (d : State) → is_listed (after_joining limit d number phys at) ≡ true
   pub reporting : (limit at : ℕ) (fate : Fate) (d : State) → is_listed d ≡ true → is_listed (after_sending limit d fate at) ≡ true
   pub waiting : (d : State) → is_listed d ≡ true → is_listed (after_waiting d) ≡ true
-  pub submitting : (limit at : ℕ) (frame : List ℕ) (d : State) → is_listed d ≡ true → is_listed (after_submission limit d frame at) ≡ true
+  pub submitting : (limit at : ℕ) (frame : List ℕ) (ticket : Ticket) (d : State) → is_listed d ≡ true → is_listed (after_submission limit d frame ticket at) ≡ true
   pub following : (limit at : ℕ) (frame : List ℕ) (d : State) → is_listed d ≡ true → is_listed (after_frame limit d frame at) ≡ true
   pub keying : (limit at : ℕ) (key : Key) (press : Bool) (d : State) → is_listed d ≡ true → is_listed (after_key limit d key press at) ≡ true
   pub holding : (d : State) (unit a : ℕ) → is_listed d ≡ true → slice_get (addresses_held d.place) unit ≡ Some (Some a) → a < 15

@@ -25,7 +25,7 @@ class_after_drop Retry = PresentInitiator
 class_after_drop class = class
 
 abbrev pub acted_by : State → Option KeyError → Act → State
-acted_by d None (Hold first second) = record d { place = Settled first second }
+acted_by d None (Hold first second more) = record d { place = Settled first second; more = more }
 acted_by d None Empty = record d { queue = []; attempts = 0; class = class_after_drop d.class }
 acted_by d (Some fault) act = d
 

@@ -1,7 +1,7 @@
 -- Joining, leaving, logical address allocation (CEC 10.2.1), and the fates of frames that were sent: retransmission
 -- (CEC 7.1) and the signal free time that is due next (CEC 9.1). That a poll is tried again without limit, and how attempts
 -- are counted, are this profile's own.
-use Rattle.std.specs.Prelude.{ℕ, ◌==◌, ◌+◌, ◌*◌, ◌/◌, ◌%◌, ◌&&◌, ◌||◌, Bool, true, false, not, nat_lt, List, [], ◌∷◌, ◌++◌, length, slice_index, if◌then◌else◌, Option, Some, None, is_some}
+use Rattle.std.specs.Prelude.{ℕ, ◌==◌, ◌+◌, ◌-◌, ◌*◌, ◌/◌, ◌%◌, min, ◌&&◌, ◌||◌, Bool, true, false, not, nat_lt, List, [], ◌∷◌, ◌++◌, length, slice_index, if◌then◌else◌, Option, Some, None, is_some}
 use Rattle.text_core.specs.declared.kind.Kind.{Kind}
 use Rattle.text_core.specs.declared.phys.Phys.{Phys}
 use Rattle.device_core.specs.declared.place.Place.{Place}
@@ -11,6 +11,7 @@ use Rattle.line_frames.specs.declared.Fate.TheVariants.{Delivered, Unacked, Lost
 use Rattle.line_frames.specs.declared.free_time.FreeTime.{FreeTime}
 use Rattle.line_frames.specs.declared.free_time.FreeTime.TheVariants.{Retry, NewInitiator, PresentInitiator}
 use Rattle.device_core.specs.declared.device.Queued.{Queued}
+use Rattle.device_core.specs.declared.device.Ticket.{Ticket}
 use Rattle.device_core.specs.declared.device.SubmitError.{SubmitError}
 use Rattle.device_core.specs.declared.device.SubmitError.TheVariants.{QueueFull, OwnAddress, NoAddress, OffWire}
 use Rattle.device_features.specs.Kinds.{addresses, is_nowhere, is_outside, is_switch, second_addresses, type_of}
@@ -91,6 +92,7 @@ fresh kind name ports = record {
   number = 0;
   phys = record { high = 255; low = 255 };
   place = Off;
+  more = record { third = None; fourth = None };
   record_of = fresh_record kind ports;
   queue = [];
   attempts = 0;
@@ -143,18 +145,42 @@ after_front d = record d { queue = rest_of d.queue; attempts = 0; class = Presen
     rest_of [] = []
     rest_of (q ∷ qs) = qs
 
--- retransmission (CEC 7.1: up to five times): a failed attempt, the sixth of which is the last
-abbrev pub after_failure : State → State
-after_failure d = if nat_lt d.attempts 5 then record d { attempts = d.attempts + 1; class = Retry } else after_front d
+-- how many attempts a frame has in all, where who hands it in says so (own)
+abbrev pub attempts_of : Option Ticket → Option ℕ
+attempts_of None = None
+attempts_of (Some ticket) = ticket.attempts
 
--- a frame without an opcode is a poll
+-- how often it is sent again at most: five times (CEC 7.1), or as often as that leaves
+abbrev pub again_by : Option ℕ → ℕ
+again_by None = 5
+again_by (Some attempts) = min (attempts - 1) 5
+
+-- of the front frame
+abbrev pub most_again : List Queued → ℕ
+most_again [] = 5
+most_again (q ∷ qs) = again_by (attempts_of q.ticket)
+
+-- retransmission (CEC 7.1): a failed attempt, after the last of which the frame is given up
+abbrev pub after_failure : State → State
+after_failure d = if nat_lt d.attempts (most_again d.queue) then record d { attempts = d.attempts + 1; class = Retry } else after_front d
+
+-- it is said how many attempts the front frame has
+abbrev pub front_is_counted : List Queued → Bool
+front_is_counted [] = false
+front_is_counted (q ∷ qs) = is_some (attempts_of q.ticket)
+
+-- a frame without an opcode is a poll; one whose attempts are counted is tried as any other frame (own)
 abbrev pub front_is_poll : List Queued → Bool
 front_is_poll [] = false
-front_is_poll (q ∷ qs) = length q.frame == 1
+front_is_poll (q ∷ qs) = (length q.frame == 1) && not (is_some (attempts_of q.ticket))
+
+-- An arbitration that was lost is an attempt where they are counted (own).
+abbrev pub after_loss : State → State
+after_loss d = if front_is_counted d.queue then after_failure d else d
 
 -- the fate of a queued frame
 abbrev pub frame_sent : State → Fate → State
-frame_sent d Lost = record d { class = NewInitiator }
+frame_sent d Lost = record (after_loss d) { class = NewInitiator }
 frame_sent d Delivered = after_front d
 frame_sent d Unacked = if front_is_poll d.queue then after_front d else after_failure d
 frame_sent d Broken = if front_is_poll d.queue then record d { class = Retry } else after_failure d
@@ -209,13 +235,13 @@ submit_fault limit d bytes =
     if not (is_outside d.kind) && holds d.place (slice_index bytes 0 % 16) then Some OwnAddress else (
     if nat_lt (length d.queue) limit then None else Some QueueFull)))
 
-abbrev pub submitted_by : State → List ℕ → ℕ → Option SubmitError → State
-submitted_by d bytes at None = record d { queue = d.queue ++ record { frame = bytes; ready = at } ∷ [] }
-submitted_by d bytes at (Some fault) = d
+abbrev pub submitted_by : State → List ℕ → Ticket → ℕ → Option SubmitError → State
+submitted_by d bytes ticket at None = record d { queue = d.queue ++ record { frame = bytes; ready = at; ticket = Some ticket } ∷ [] }
+submitted_by d bytes ticket at (Some fault) = d
 
--- a frame that is handed in stands last, unless it is refused
-abbrev pub after_submission : ℕ → State → List ℕ → ℕ → State
-after_submission limit d bytes at = submitted_by d bytes at (submit_fault limit d bytes)
+-- a frame that is handed in stands last, with what is said of it, unless it is refused
+abbrev pub after_submission : ℕ → State → List ℕ → Ticket → ℕ → State
+after_submission limit d bytes ticket at = submitted_by d bytes ticket at (submit_fault limit d bytes)
 
 -- ---- what it has to send
 

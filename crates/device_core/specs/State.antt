@@ -1,14 +1,15 @@
 -- What a device is to its callers, and who it is on the wire. That a device with no address speaks only where it is
 -- a switch, which address a box speaks from, and how many frames wait, are this profile's own.
-use Rattle.std.specs.Prelude.{ℕ, ◌==◌, ◌*◌, ◌+◌, Bool, false, ◌&&◌, ◌||◌, not, nat_lt, List, [], ◌∷◌, ◌++◌, length, if◌then◌else◌, min, Option, Some, None}
+use Rattle.std.specs.Prelude.{ℕ, ◌==◌, ◌*◌, ◌+◌, Bool, true, false, ◌&&◌, ◌||◌, not, nat_lt, List, [], ◌∷◌, ◌++◌, length, if◌then◌else◌, min, Option, Some, None}
 use Rattle.std.specs.List.{list_any}
 use Rattle.text_core.specs.declared.kind.Kind.{Kind}
 use Rattle.text_core.specs.declared.phys.Phys.{Phys}
 use Rattle.line_frames.specs.declared.free_time.FreeTime.{FreeTime}
+use Rattle.device_core.specs.declared.outside.MoreHeld.{MoreHeld}
 use Rattle.device_core.specs.declared.place.Place.{Place}
 use Rattle.device_core.specs.declared.place.Place.TheVariants.{Off, Polls, Settled}
 use Rattle.device_features.specs.declared.record.Record.{Record}
-use Rattle.device_features.specs.Kinds.{is_switch, is_nowhere}
+use Rattle.device_features.specs.Kinds.{is_outside, is_switch, is_nowhere}
 use Rattle.device_core.specs.declared.device.Queued.{Queued}
 
 pub record State : Type 0 where
@@ -18,6 +19,7 @@ pub record State : Type 0 where
   pub number : ℕ
   pub phys : Phys
   pub place : Place
+  pub more : MoreHeld
   pub record_of : Record
   pub queue : List Queued
   pub attempts : ℕ
@@ -41,6 +43,17 @@ is_held (Some a) to = (a == to) && nat_lt to 15
 -- one of its units holds this address
 abbrev pub holds : Place → ℕ → Bool
 holds place to = list_any (λ unit. is_held unit to) (addresses_held place)
+
+-- Beside the addresses of its units a device from outside holds up to two more, while it is on the wire (own: adapters have up to four).
+abbrev pub more_of : Bool → Place → MoreHeld → List (Option ℕ)
+more_of false place more = None ∷ None ∷ []
+more_of true Off more = None ∷ None ∷ []
+more_of true (Polls found a) more = None ∷ None ∷ []
+more_of true (Settled first second) more = more.third ∷ more.fourth ∷ []
+
+-- all that it holds
+abbrev pub held_by : State → List (Option ℕ)
+held_by d = addresses_held d.place ++ more_of (is_outside d.kind) d.place d.more
 
 -- the main address of a device that has settled: the second unit's where that is below 15, else the first one's
 abbrev pub main_of : ℕ → Option ℕ → ℕ
@@ -79,5 +92,5 @@ one_more n = min (n + 1) 18446744073709551615
 abbrev pub with_queued : ℕ → ℕ → ℕ → ℕ → List ℕ → State → State
 with_queued limit at from to bytes d =
     if not (speaks d) || holds d.place to then d else (
-    if nat_lt (length d.queue) limit then record d { queue = d.queue ++ record { frame = frame_of from to bytes; ready = at } ∷ [] }
+    if nat_lt (length d.queue) limit then record d { queue = d.queue ++ record { frame = frame_of from to bytes; ready = at; ticket = None } ∷ [] }
     else record d { dropped = one_more d.dropped })

@@ -3,6 +3,7 @@ ghost use Rattle.std.specs.Prelude.{◌≡◌, ◌<◌, ◌≤◌, ◌==◌, [],
 ghost use Rattle.device_core.specs.State.{with_queued, speaks, holds, is_held, main_of, source, frame_of};
 ghost use Rattle.device_core.specs.Say.{say, say_all};
 
+use crate::outside::MoreHeld;
 use crate::place::Place;
 use arrayvec::ArrayVec;
 use device_features::{DataBlocks, Heard, Port, Record, Say, is_nowhere};
@@ -17,6 +18,16 @@ use thiserror::Error;
 pub struct Queued {
     pub frame: Frame,
     pub ready: u64,
+    /// What is said of it, where it was handed in.
+    pub ticket: Option<Ticket>,
+}
+
+/// What is said of a frame that is handed in: the line of the script that hands it in, and how many attempts it has in all, where
+/// the line says so.
+#[derive(Clone, Copy, Debug, PartialEq, Eq)]
+pub struct Ticket {
+    pub line: u64,
+    pub attempts: Option<u8>,
 }
 
 impl Default for Queued {
@@ -24,6 +35,7 @@ impl Default for Queued {
         Queued {
             frame: frame_of(Addr::new(0), Addr::new(0), &[]),
             ready: 0,
+            ticket: None,
         }
     }
 }
@@ -51,6 +63,7 @@ pub struct Device<const Q: usize> {
     pub(crate) number: u8,
     pub(crate) phys: Phys,
     pub(crate) place: Place,
+    pub(crate) more: MoreHeld,
     pub(crate) record: Record,
     pub(crate) queue: ArrayVec<Queued, Q>,
     pub(crate) attempts: u8,
@@ -71,6 +84,7 @@ impl<const Q: usize> Model for Device<Q> {
       number = d.number;
       phys = d.phys;
       place = d.place;
+      more = d.more;
       record_of = d.«record»;
       queue = d.queue.items;
       attempts = d.attempts;
@@ -159,7 +173,11 @@ impl<const Q: usize> Device<Q> {
         }
         if self.queue.len() < Q {
             let frame = frame_of(from, to, rest);
-            self.queue.push(Queued { frame, ready: at });
+            self.queue.push(Queued {
+                frame,
+                ready: at,
+                ticket: None,
+            });
         } else {
             self.dropped = self.dropped.saturating_add(1);
         }

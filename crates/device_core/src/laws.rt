@@ -4,6 +4,7 @@ ghost use Rattle.device_core.specs.Clean.{HoldsNothingYet, KeepsClean, KeepsKind
 ghost use Rattle.device_core.specs.Listed.{HoldsListed};
 ghost use Rattle.device_core.specs.Outside.{OnlyOutside};
 ghost use Rattle.device_core.specs.PlaceLaw.{PlaceGoesByFates};
+ghost use Rattle.device_core.specs.Sent.{FramesEnd};
 
 /// The fates of a round keep each address below 15 with one holder.
 pub fn fates_keep_once()
@@ -48,6 +49,11 @@ pub fn numbers_stay()
 /// A device stays of its kind, whatever it does and is told.
 pub fn kinds_stay()
     ensures { KeepsKind }
+{}
+
+/// A frame is over exactly where its device has less to send than before.
+pub fn frames_end()
+    ensures { FramesEnd }
 {}
 
 /// A device from outside holds and sends what it is told, and does nothing by itself.

@@ -8,11 +8,22 @@ use crate::place::Place;
 use arrayvec::ArrayVec;
 use line_frames::{Addr, FreeTime};
 
+/// What a device from outside holds beside the addresses that a device of two units may hold.
+#[derive(Clone, Copy, Debug, PartialEq, Eq)]
+pub struct MoreHeld {
+    pub third: Option<Addr>,
+    pub fourth: Option<Addr>,
+}
+
 /// What the driver of a device from outside makes it do.
 #[derive(Clone, Copy)]
 pub enum Act {
     /// It holds these addresses from now on. 15 is none.
-    Hold { first: Addr, second: Option<Addr> },
+    Hold {
+        first: Addr,
+        second: Option<Addr>,
+        more: MoreHeld,
+    },
     /// It drops what it has to send.
     Empty,
 }
@@ -32,7 +43,14 @@ impl<const Q: usize> Device<Q> {
         ensures { self.new ≡ acted_by self.old None act }
     {
         match act {
-            Act::Hold { first, second } => self.place = Place::Settled { first, second },
+            Act::Hold {
+                first,
+                second,
+                more,
+            } => {
+                self.place = Place::Settled { first, second };
+                self.more = more;
+            }
             Act::Empty => {
                 self.queue = ArrayVec::new();
                 self.attempts = 0;

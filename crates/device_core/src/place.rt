@@ -2,10 +2,12 @@
 //! (CEC 7.1).
 ghost use Rattle.std.specs.Prelude.{◌≡◌, ◌<◌, Some, None, length, MatchResult, IsSome, IsTrue, ◌≤◌, nat_lt};
 ghost use Rattle.std.specs.List.{list_all};
+ghost use Rattle.line_frames.specs.declared.Fate.TheVariants.{Lost};
 ghost use Rattle.device_features.specs.Kinds.{addresses, second_addresses};
-ghost use Rattle.device_core.specs.Place.{begins, settles, tries, tries_after, list_of, place_after_fate, class_of_poll, unregistered, polled_at, settled_at, start_place, fresh, with_reports, reported_from, after_joining, after_leaving, after_front, after_failure, frame_sent, front_is_poll, after_sending, poll_sent, after_waiting, submit_fault, after_submission, front_of, is_allocating};
+ghost use Rattle.device_core.specs.Place.{begins, settles, tries, tries_after, list_of, place_after_fate, class_of_poll, unregistered, polled_at, settled_at, start_place, fresh, with_reports, reported_from, after_joining, after_leaving, after_front, after_failure, again_by, attempts_of, frame_sent, front_is_counted, front_is_poll, most_again, after_sending, poll_sent, after_waiting, submit_fault, after_submission, front_of, is_allocating};
 
-use crate::device::{Device, Queued, SubmitError};
+use crate::device::{Device, Queued, SubmitError, Ticket};
+use crate::outside::MoreHeld;
 use arrayvec::ArrayVec;
 use device_features::{
     DataBlocks, NOWHERE, Port, Record, addresses, is_nowhere, report_of, second_addresses,
@@ -24,6 +26,12 @@ pub(crate) enum Place {
     /// Each unit has settled at an address, at 15 where it found none or takes none.
     Settled { first: Addr, second: Option<Addr> },
 }
+
+// No address but those of its units.
+const NO_MORE: MoreHeld = MoreHeld {
+    third: None,
+    fourth: None,
+};
 
 // The first unit has settled. The second one begins with its list, if there is one.
 fn begins(kind: Kind, first: Addr) -> Place
@@ -110,6 +118,26 @@ fn place_after_fate(kind: Kind, place: Place, fate: Fate) -> Place
     }
 }
 
+// How many attempts are said to be made, where that is said.
+fn attempts_of(ticket: Option<Ticket>) -> Option<u8>
+    ensures { result ≡ attempts_of ticket }
+{
+    match ticket {
+        None => None,
+        Some(ticket) => ticket.attempts,
+    }
+}
+
+// How often a frame is sent again at most.
+fn again_by(ticket: Option<Ticket>) -> u8
+    ensures { result ≡ again_by (attempts_of ticket) }
+{
+    match attempts_of(ticket) {
+        None => 5,
+        Some(attempts) => attempts.saturating_sub(1).min(5),
+    }
+}
+
 fn class_of_poll(fate: Fate) -> FreeTime
     ensures { result ≡ class_of_poll fate }
 {
@@ -175,6 +203,7 @@ impl<const Q: usize> Device<Q> {
             number: 0,
             phys: NOWHERE,
             place: Place::Off,
+            more: NO_MORE,
             record: Record::new(kind, ports),
             queue: ArrayVec::new(),
             attempts: 0,
@@ -191,6 +220,7 @@ impl<const Q: usize> Device<Q> {
         self.number = 0;
         self.phys = NOWHERE;
         self.place = Place::Off;
+        self.more = NO_MORE;
         self.record = Record::new(self.kind, self.ports);
         self.queue = ArrayVec::new();
         self.attempts = 0;
@@ -245,12 +275,21 @@ impl<const Q: usize> Device<Q> {
         self.class = FreeTime::PresentInitiator;
     }
 
-    // Retransmission (CEC 7.1): after a failed attempt a frame is sent again, up to five times.
+    // How often the front frame is sent again at most.
+    pub(crate) fn most_again(&self) -> u8
+        requires { 0 < length self.now.queue }
+        ensures { result ≡ most_again self.now.queue }
+    {
+        again_by(self.queue[0].ticket)
+    }
+
+    // Retransmission (CEC 7.1): after a failed attempt a frame is sent again, up to five times, or less often where who handed
+    // it in says so.
     fn fail(&mut self)
         requires { 0 < length self.old.queue }
         ensures { self.new ≡ after_failure self.old }
     {
-        if self.attempts < 5 {
+        if self.attempts < self.most_again() {
             self.attempts += 1;
             self.class = FreeTime::Retry;
         } else {
@@ -278,20 +317,39 @@ impl<const Q: usize> Device<Q> {
         self.report(at);
     }
 
-    fn front_is_poll(&self) -> bool
+    pub(crate) fn front_is_poll(&self) -> bool
         requires { 0 < length self.now.queue }
         ensures { result ≡ front_is_poll self.now.queue }
     {
-        self.queue[0].frame.is_poll()
+        self.queue[0].frame.is_poll() && !self.front_is_counted()
     }
 
-    // A poll of a script ends where it was answered or not, and is sent again where it was broken off.
+    pub(crate) fn front_is_counted(&self) -> bool
+        requires { 0 < length self.now.queue }
+        ensures { result ≡ front_is_counted self.now.queue }
+    {
+        attempts_of(self.queue[0].ticket).is_some()
+    }
+
+    // Another one has won the arbitration. That is an attempt where attempts are counted.
+    fn lose(&mut self)
+        requires { 0 < length self.old.queue }
+        ensures { self.new ≡ frame_sent self.old Lost }
+    {
+        if self.front_is_counted() {
+            self.fail();
+        }
+        self.class = FreeTime::NewInitiator;
+    }
+
+    // A poll of a script ends where it was answered or not, and is sent again where it was broken off, unless its attempts are
+    // counted.
     fn frame_sent(&mut self, fate: Fate)
         requires { 0 < length self.old.queue }
         ensures { self.new ≡ frame_sent self.old fate }
     {
         match fate {
-            Fate::Lost => self.class = FreeTime::NewInitiator,
+            Fate::Lost => self.lose(),
             Fate::Delivered => self.end_front(),
             Fate::Unacked if self.front_is_poll() => self.end_front(),
             Fate::Unacked => self.fail(),
@@ -335,9 +393,9 @@ impl<const Q: usize> Device<Q> {
     /// Queues a frame that somebody hands in. It is refused with `OffWire`, `NoAddress` where the device has
     /// not settled or the frame's initiator is none of its addresses, `OwnAddress` where the frame goes to itself,
     /// and `QueueFull`, in this order. A device from outside sends from and to any address. A refusal changes nothing.
-    pub fn submit(&mut self, frame: Frame, at: u64) -> Result<(), SubmitError>
+    pub fn submit(&mut self, frame: Frame, ticket: Ticket, at: u64) -> Result<(), SubmitError>
         ensures answer { MatchResult result (λ _. submit_fault Q self.old frame ≡ None) (λ fault. submit_fault Q self.old frame ≡ Some fault) }
-        ensures queue { self.new ≡ after_submission Q self.old frame at }
+        ensures queue { self.new ≡ after_submission Q self.old frame ticket at }
     {
         if self.place == Place::Off {
             return Err(SubmitError::OffWire);
@@ -351,7 +409,11 @@ impl<const Q: usize> Device<Q> {
         if self.queue.len() >= Q {
             return Err(SubmitError::QueueFull);
         }
-        self.queue.push(Queued { frame, ready: at });
+        self.queue.push(Queued {
+            frame,
+            ready: at,
+            ticket: Some(ticket),
+        });
         Ok(())
     }
 }

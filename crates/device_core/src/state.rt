@@ -1,14 +1,30 @@
 //! What a device says of itself.
 ghost use Rattle.std.specs.Prelude.{◌≡◌, ◌≤◌, length};
-ghost use Rattle.device_core.specs.State.{addresses_held};
+ghost use Rattle.device_core.specs.State.{addresses_held, held_by, more_of};
+ghost use Rattle.device_features.specs.Kinds.{is_outside};
 ghost use Rattle.device_core.specs.Place.{front_of, ready_of, is_allocating, is_on_wire};
 
 use crate::device::{Device, Queued, frame_of};
+use crate::outside::MoreHeld;
 use crate::place::{Place, name_copy};
 use arrayvec::ArrayVec;
 use device_features::Record;
 use line_frames::{Addr, Frame, FreeTime};
 use text_core::{Kind, Phys};
+
+// What a device holds beside the addresses of its units: only one from outside does, while it is on the wire.
+fn more_of(outside: bool, place: Place, more: MoreHeld) -> [Option<Addr>; 2]
+    ensures { result ≡ more_of outside place more }
+{
+    if outside {
+        match place {
+            Place::Off | Place::Polls { .. } => [None, None],
+            Place::Settled { .. } => [more.third, more.fourth],
+        }
+    } else {
+        [None, None]
+    }
+}
 
 impl<const Q: usize> Device<Q> {
     /// What it is.
@@ -57,6 +73,22 @@ impl<const Q: usize> Device<Q> {
             Place::Polls { found, .. } => [found, None],
             Place::Settled { first, second } => [Some(first), second],
         }
+    }
+
+    // What it holds beside the addresses of its units.
+    fn more_held(&self) -> [Option<Addr>; 2]
+        ensures { result ≡ more_of (is_outside self.now.kind) self.now.place self.now.more }
+    {
+        more_of(self.kind.is_outside(), self.place, self.more)
+    }
+
+    /// All addresses that it holds, 15 among them: those of its units, and of a device from outside up to two more.
+    pub fn all_held(&self) -> [Option<Addr>; 4]
+        ensures { result ≡ held_by self.now }
+    {
+        let [first, second] = self.held();
+        let [third, fourth] = self.more_held();
+        [first, second, third, fourth]
     }
 
     /// Whether it is on the wire.
@@ -136,6 +168,7 @@ impl<const Q: usize> Device<Q> {
             copy.push(Queued {
                 frame: queued.frame.copy(),
                 ready: queued.ready,
+                ticket: queued.ticket,
             });
         }
         copy
@@ -152,6 +185,7 @@ impl<const Q: usize> Device<Q> {
             number: self.number,
             phys: self.phys,
             place: self.place,
+            more: self.more,
             record: self.record.copy(),
             queue: self.copied_queue(),
             attempts: self.attempts,

@@ -2,7 +2,7 @@
 use crate::cases::{bytes_of, check, follow, key_of, phys_of, settled};
 use crate::effect_rows::{BOX, BROADCAST, DIRECT, IGNORED, PRESSED, UNKNOWN};
 use crate::key_rows::{PRESSES, REFUSED, RELEASES};
-use device_core::{Act, Device, Fate, Port, Record};
+use device_core::{Act, Device, Fate, MoreHeld, Port, Record, Ticket};
 use line_frames::{Addr, Frame};
 use std::alloc::Global;
 use std::process::Abort;
@@ -97,9 +97,13 @@ fn is_done(device: &mut Device<16>, doing: &str, words: &str) -> bool {
 
 // ---- what it reports
 
-fn submit(alloc: Global, device: &mut Device<16>, words: &str) -> Option<String> {
+fn submit(alloc: Global, device: &mut Device<16>, most: Option<u8>, words: &str) -> Option<String> {
     let frame = Frame::new(&bytes_of(words, 0)).ok()?;
-    match device.submit(frame, 900) {
+    let ticket = Ticket {
+        line: 0,
+        attempts: most,
+    };
+    match device.submit(frame, ticket, 900) {
         Ok(()) => format!(in alloc; "queued").ok(),
         Err(error) => format!(in alloc; "{error:?}").ok(),
     }
@@ -119,14 +123,32 @@ fn act(alloc: Global, device: &mut Device<16>, act: Act) -> Option<String> {
     }
 }
 
-// Two numbers: the addresses that it is to hold.
+// A frame that is handed in with how many attempts it has.
+fn submit_within(alloc: Global, device: &mut Device<16>, words: &str) -> Option<String> {
+    let (most, bytes) = words.split_once(' ')?;
+    let most: u8 = most.parse().ok()?;
+    submit(alloc, device, Some(most), bytes)
+}
+
+fn address_of(word: &str) -> Option<Addr> {
+    let address: u8 = word.parse().ok()?;
+    Some(Addr::new(address % 16))
+}
+
+// Two numbers or four: the addresses that it is to hold.
 fn hold(alloc: Global, device: &mut Device<16>, words: &str) -> Option<String> {
-    let (first, second) = words.split_once(' ')?;
-    let first: u8 = first.parse().ok()?;
-    let second: u8 = second.parse().ok()?;
-    let first = Addr::new(first % 16);
-    let second = Some(Addr::new(second % 16));
-    act(alloc, device, Act::Hold { first, second })
+    let (first, others) = words.split_once(' ')?;
+    let (second, more) = others.split_once(' ').unwrap_or((others, ""));
+    let (third, fourth) = more.split_once(' ').unwrap_or((more, ""));
+    let held = Act::Hold {
+        first: address_of(first)?,
+        second: address_of(second),
+        more: MoreHeld {
+            third: address_of(third),
+            fourth: address_of(fourth),
+        },
+    };
+    act(alloc, device, held)
 }
 
 // The bytes as two digits each, each after a space.
@@ -157,6 +179,13 @@ fn held(alloc: Global, device: &Device<16>) -> Option<String> {
     let [first, second] = device.held();
     let (first, second) = (value_of(first), value_of(second));
     format!(in alloc; "{first:?} {second:?}").ok()
+}
+
+fn all_held(alloc: Global, device: &Device<16>) -> Option<String> {
+    let [first, second, third, fourth] = device.all_held();
+    let (first, second) = (value_of(first), value_of(second));
+    let (third, fourth) = (value_of(third), value_of(fourth));
+    format!(in alloc; "{first:?} {second:?} {third:?} {fourth:?}").ok()
 }
 
 fn holds(alloc: Global, device: &Device<16>, words: &str) -> Option<String> {
@@ -195,6 +224,7 @@ fn reported(alloc: Global, device: &Device<16>, doing: &str, words: &str) -> Opt
     match doing {
         "front" => front(alloc, device),
         "held" => held(alloc, device),
+        "all-held" => all_held(alloc, device),
         "holds" => holds(alloc, device, words),
         "stands" => stands(alloc, device),
         "queue" => queue(alloc, device),
@@ -212,7 +242,8 @@ fn reported_after(alloc: Global, device: &mut Device<16>, line: &str) -> Option<
         return Some(String::new(alloc));
     }
     match doing {
-        "submit" => submit(alloc, device, words),
+        "submit" => submit(alloc, device, None, words),
+        "submit-within" => submit_within(alloc, device, words),
         "press" => key(alloc, device, words, true),
         "release" => key(alloc, device, words, false),
         "hold" => hold(alloc, device, words),
@@ -285,6 +316,47 @@ front => 88
 class => 12000
 sent unacked
 class => 16800";
+
+// A frame with two attempts in all, a lost one among them; then one with three, of which the second is delivered; then one
+// with one.
+const COUNTED: &str = "\
+submit-within 2 40 04 => queued
+submit-within 3 40 46 => queued
+submit-within 1 40 8f => queued
+class => 16800
+sent lost
+front => 40 04
+class => 12000
+sent unacked
+front => 40 46
+class => 16800
+sent broken
+front => 40 46
+class => 7200
+sent delivered
+front => 40 8f
+class => 16800
+sent lost
+front => -
+class => 12000";
+
+// A poll with two attempts; one with more than six has six.
+const POLLS_COUNTED: &str = "\
+submit-within 2 48 => queued
+submit-within 200 48 => queued
+sent unacked
+front => 48
+class => 7200
+sent unacked
+queue => 1 0
+sent unacked
+sent broken
+sent lost
+sent unacked
+sent broken
+queue => 1 0
+sent unacked
+queue => 0 0";
 
 // The same after the fates of a poll that was handed in.
 const POLL_SENT: &str = "\
@@ -427,6 +499,23 @@ press power => NotForKind
 leave
 held => None None";
 
+// It holds up to four addresses, until the next `hold` or until it leaves the wire.
+const HOLDS_FOUR: &str = "\
+join 1000 0
+all-held => Some(15) None None None
+hold 4 8 1 5 => done
+all-held => Some(4) Some(8) Some(1) Some(5)
+held => Some(4) Some(8)
+copy
+all-held => Some(4) Some(8) Some(1) Some(5)
+hold 4 15 => done
+all-held => Some(4) Some(15) None None
+hold 4 8 1 5 => done
+leave
+all-held => None None None None
+join 1000 0
+all-held => Some(15) None None None";
+
 const DROPS: &str = "\
 join 1000 0
 submit 44 => queued
@@ -497,9 +586,10 @@ hold 4 15 => NotForKind
 held => Some(0) None";
 
 const NOT_OUTSIDE: &str = "\
-hold 3 15 => NotForKind
+hold 3 15 1 5 => NotForKind
 drop => NotForKind
-held => Some(4) None";
+held => Some(4) None
+all-held => Some(4) None None None";
 
 /// The runs of devices: what a device is, and then how often which lines are gone through.
 const RUNS: &[(&str, &[(usize, &str)])] = &[
@@ -515,6 +605,8 @@ const RUNS: &[(&str, &[(usize, &str)])] = &[
     ("new player", &[(1, NO_ADDRESS)]),
     ("new player", &[(1, POLLED)]),
     ("settled player", &[(1, POLL_SENT)]),
+    ("settled player", &[(1, COUNTED)]),
+    ("settled player", &[(1, POLLS_COUNTED)]),
     ("settled player", &[(1, SETTLED)]),
     (
         "settled player",
@@ -528,6 +620,7 @@ const RUNS: &[(&str, &[(usize, &str)])] = &[
     ("new box", &[(1, NEITHER)]),
     ("new box", &[(1, TOO_FAR_BELOW)]),
     ("new outside", &[(1, HOLDS)]),
+    ("new outside", &[(1, HOLDS_FOUR)]),
     ("new outside", &[(1, DROPS)]),
     ("new outside-tv", &[(1, TELEVISION)]),
     ("new outside-tv", &[(1, DROPS)]),

@@ -51,7 +51,7 @@ fn seat_of(word: &str) -> Option<Seat> {
     };
     Some(Seat {
         plugged: true,
-        holds: [address_of(held), None],
+        holds: [address_of(held), None, None, None],
         sends,
     })
 }

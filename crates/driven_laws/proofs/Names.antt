@@ -45,8 +45,8 @@ two false x y name h k = k
 pub name-queued : QueueingKeepsNames
 name-queued limit at from to bytes d =
     two (not (speaks d) || holds d.place to) d
-    (if nat_lt (length d.queue) limit then record d { queue = d.queue ++ record { frame = frame_of from to bytes; ready = at } ∷ [] } else record d { dropped = one_more d.dropped }) d.name refl
-    (two (nat_lt (length d.queue) limit) (record d { queue = d.queue ++ record { frame = frame_of from to bytes; ready = at } ∷ [] }) (record d { dropped = one_more d.dropped }) d.name refl refl)
+    (if nat_lt (length d.queue) limit then record d { queue = d.queue ++ record { frame = frame_of from to bytes; ready = at; ticket = None } ∷ [] } else record d { dropped = one_more d.dropped }) d.name refl
+    (two (nat_lt (length d.queue) limit) (record d { queue = d.queue ++ record { frame = frame_of from to bytes; ready = at; ticket = None } ∷ [] }) (record d { dropped = one_more d.dropped }) d.name refl refl)
 
 name-reported_from : (limit at : ℕ) (unit : Option ℕ) (d : State) → (reported_from limit at unit d).name ≡ d.name
 name-reported_from limit at None d = refl

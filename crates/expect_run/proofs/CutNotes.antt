@@ -10,7 +10,6 @@ use Rattle.line_wave.specs.declared.Stretch.{Stretch}
 use Rattle.line_wave.specs.declared.PulsesError.{PulsesError}
 use Rattle.line_wave.specs.Bounds.{latest_event, most_pulses, most_pulls, widest_pull}
 use Rattle.device_features.specs.declared.keys.Key.{Key as KeyValue}
-use Rattle.message_text.specs.declared.assembler.AssembleError.{AssembleError}
 use Rattle.text_core.specs.Number.{number_of}
 use Rattle.text_core.specs.Words.{one_of, two_of, three_of}
 use Rattle.room_event.specs.declared.event.Event.{Event}
@@ -18,6 +17,7 @@ use Rattle.room_event.specs.declared.event.Event.TheVariants.{Plug, Unplug, Key,
 use Rattle.room_event.specs.declared.event.HeaderNames.{HeaderNames}
 use Rattle.room_script.specs.Keys.{key_of}
 use Rattle.room_script.specs.Header.{header_names}
+use Rattle.room_script.specs.Sending.{handed_in}
 use Rattle.room_script.specs.Holding.{hold_of}
 use Rattle.device_core.specs.declared.outside.Act.{Act}
 use Rattle.device_core.specs.declared.outside.Act.TheVariants.{Empty}
@@ -26,7 +26,7 @@ use Rattle.text_core.specs.At.{at_word}
 use Rattle.text_core.specs.declared.at.AtWord.{AtWord}
 use Rattle.room_script.specs.declared.script.ScriptCause.{ScriptCause}
 use Rattle.room_script.specs.declared.script.ScriptCause.TheVariants.{Word, Width, Order, TooMany, End}
-use Rattle.room_script.specs.Script.{is_before as is_over, Notes, within_limit, time_of, last_time, last_end, notes_with_event, plug_read, plug_words, unplug_read, unplug_words, key_read, key_words, act_read, hold_words, drop_words, send_read, frame_event, event_words, unless_fault, pulse_refusal, span_read, pulse_read, pulse_words, touches, pull_read, pull_words, level_of, pin_falls, pin_stays_high, notes_with_level, pin_read, pin_words, pulses_ended, end_read, end_words, IsSendRead, IsEventRead, IsLineRead}
+use Rattle.room_script.specs.Script.{is_before as is_over, Notes, within_limit, time_of, last_time, last_end, notes_with_event, plug_read, plug_words, unplug_read, unplug_words, key_read, key_words, act_read, hold_words, drop_words, send_read, frame_event, event_words, unless_fault, pulse_refusal, span_read, pulse_read, pulse_words, touches, pull_read, pull_words, level_of, pin_falls, pin_stays_high, notes_with_level, pin_read, pin_words, pulses_ended, end_read, end_words, IsHandedRead, IsSendRead, IsEventRead, IsLineRead}
 use Rattle.expect_text.specs.Line.{is_before, is_sooner}
 use Rattle.expect_run.specs.Cuts.{is_early}
 
@@ -190,21 +190,26 @@ event_words_take tree line time verb words notes next e =
     (drop_words_take tree line time (length words) (one_of words) notes next)
     (no_event t line (at_word 2 Word) notes next)))))) e
 
-send_takes : (line : ℕ) (time device : Option ℕ) (names : Option (Option HeaderNames)) (frame : Result (List ℕ) AssembleError) (notes next : Notes) → Ok next ≡ send_read notes line time device names frame
-    → Takes time line (By (λ n. send_read n line time device names frame)) notes next
-send_takes line None device names frame notes next e = cc
-send_takes line (Some t) None names frame notes next e = cc
-send_takes line (Some t) (Some d) None frame notes next e = cc
-send_takes line (Some t) (Some d) (Some names) (Err cause) notes next e = cc
-send_takes line (Some t) (Some d) (Some names) (Ok frame) notes next e = record { at = t; event = frame_event d names frame; time_is = refl; reads = λ n. refl; now = e }
+send_takes : (line word : ℕ) (time : Option ℕ) (attempts : Option (Option ℕ)) (device : Option ℕ) (names : Option (Option HeaderNames)) (frame : Result (List ℕ) (AtWord ScriptCause)) (notes next : Notes)
+    → Ok next ≡ send_read notes line word time attempts device names frame → Takes time line (By (λ n. send_read n line word time attempts device names frame)) notes next
+send_takes line word None attempts device names frame notes next e = cc
+send_takes line word (Some t) None device names frame notes next e = cc
+send_takes line word (Some t) (Some m) None names frame notes next e = cc
+send_takes line word (Some t) (Some m) (Some d) None frame notes next e = cc
+send_takes line word (Some t) (Some m) (Some d) (Some names) (Err fault) notes next e = cc
+send_takes line word (Some t) (Some m) (Some d) (Some names) (Ok frame) notes next e = record { at = t; event = frame_event d (record { line = line; attempts = m }) names frame; time_is = refl; reads = λ n. refl; now = e }
+
+handed_takes : (tree : List Node) (line : ℕ) (time name : List ℕ) (at : ℕ) (attempts : Option (Option ℕ)) (words : List (List ℕ)) (notes next : Notes) → IsHandedRead tree notes line time name at attempts words (Ok next)
+    → Takes (time_of time) line (λ n read. IsHandedRead tree n line time name at attempts words read) notes next
+handed_takes tree line time name at attempts [] notes next h = cc
+handed_takes tree line time name at attempts (word ∷ words) notes next h =
+    let s = send_takes line at (time_of time) attempts (device_named tree name) (header_names tree word) h.0 notes next h.2 in
+    record { at = s.at; event = s.event; time_is = s.time_is; reads = λ n. (h.0, h.1, s.reads n); now = s.now }
 
 send_words_take : (tree : List Node) (line : ℕ) (time : List ℕ) (words : List (List ℕ)) (notes next : Notes) → IsSendRead tree notes line time words (Ok next)
     → Takes (time_of time) line (λ n read. IsSendRead tree n line time words read) notes next
 send_words_take tree line time [] notes next h = cc
-send_words_take tree line time (name ∷ []) notes next h = cc
-send_words_take tree line time (name ∷ word ∷ words) notes next h =
-    let s = send_takes line (time_of time) (device_named tree name) (header_names tree word) h.0 notes next h.2 in
-    record { at = s.at; event = s.event; time_is = s.time_is; reads = λ n. (h.0, h.1, s.reads n); now = s.now }
+send_words_take tree line time (name ∷ words) notes next h = handed_takes tree line time name (handed_in words).at (handed_in words).attempts (handed_in words).words notes next h
 
 by_cond : (b : Bool) (time : Option ℕ) (line : ℕ) (P Q : Notes → Result Notes (AtWord ScriptCause) → Type 0) (notes next : Notes) → (P notes (Ok next) → Takes time line P notes next)
     → (Q notes (Ok next) → Takes time line Q notes next) → cond {A = Type 0} b (P notes (Ok next)) (Q notes (Ok next)) → Takes time line (λ n read. cond {A = Type 0} b (P n read) (Q n read)) notes next

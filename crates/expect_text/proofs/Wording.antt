@@ -14,7 +14,7 @@ use Rattle.text_core.proofs.KindWords.{kind_read_again, word_of_found}
 use Rattle.expect_text.specs.Laws.{StateWordsAreMet}
 use Rattle.expect_text.specs.Parts.{IsTextOf, has}
 use Rattle.expect_text.specs.StateTest.{by_front, by_many, by_one, fields, is_bare, is_dash, is_empty, is_number, is_of_field, is_pair, is_second, is_state_word, is_text, is_text_or_dash, is_value, number_by, of_bytes}
-use Rattle.expect_text.specs.StateWords.{AreBytes, IsBare, IsDash, IsField, IsNumber, IsPair, IsStateWord, IsUnit, IsValue, key, note_parts, physical_parts, value_of}
+use Rattle.expect_text.specs.StateWords.{AreBytes, IsBare, IsDash, IsField, IsNumber, IsPair, IsStateWord, IsUnit, IsValue, four_parts, key, note_parts, physical_parts, three_parts, value_of}
 use Rattle.expect_text.specs.declared.part.Class.TheVariants.{Hex}
 use Rattle.expect_text.specs.declared.part.PatternPart.{PatternPart}
 use Rattle.expect_text.specs.declared.part.PatternPart.TheVariants.{Byte, One, Many, Word, Unworded, Opcode}
@@ -365,8 +365,14 @@ kind_found word (Some kind) e h = (kind, word_of_found kind_word kinds word kind
 kind_has : (word : List ℕ) (kind : Kind) → word ≡ kind_word kind → is_some (kind_named word) ≡ true
 kind_has word kind e = ap (λ t. is_some (kind_named t)) e ∙ ap is_some (kind_read_again kind)
 
+abbrev after_three : List ℕ → Bool
+after_three word = is_text four_parts word || is_text physical_parts word
+
+abbrev after_pair : List ℕ → Bool
+after_pair word = is_text three_parts word || after_three word
+
 abbrev after_kind : List ℕ → Bool
-after_kind word = is_text_or_dash (One Hex ∷ []) word || (is_pair word || is_text physical_parts word)
+after_kind word = is_text_or_dash (One Hex ∷ []) word || (is_pair word || after_pair word)
 
 abbrev after_on : List ℕ → Bool
 after_on word = bytes_eq word (codes "standby") || (is_some (kind_named word) || after_kind word)
@@ -376,8 +382,10 @@ bare_found word h =
     either (bytes_eq word (codes "on")) (after_on word) h (λ k. inl (same_text word (codes "on") k))
     (λ k. inr (either (bytes_eq word (codes "standby")) (is_some (kind_named word) || after_kind word) k (λ n. inl (same_text word (codes "standby") n))
     (λ n. inr (either (is_some (kind_named word)) (after_kind word) n (λ m. inl (kind_found word (kind_named word) refl m))
-    (λ m. inr (either (is_text_or_dash (One Hex ∷ []) word) (is_pair word || is_text physical_parts word) m (λ o. inl (unit_found word o))
-    (λ o. inr (either (is_pair word) (is_text physical_parts word) o (λ p. inl (pair_found word p)) (λ p. inr (text_found physical_parts refl word p))))))))))
+    (λ m. inr (either (is_text_or_dash (One Hex ∷ []) word) (is_pair word || after_pair word) m (λ o. inl (unit_found word o))
+    (λ o. inr (either (is_pair word) (after_pair word) o (λ p. inl (pair_found word p))
+    (λ p. inr (either (is_text three_parts word) (after_three word) p (λ q. inl (text_found three_parts refl word q))
+    (λ q. inr (either (is_text four_parts word) (is_text physical_parts word) q (λ r. inl (text_found four_parts refl word r)) (λ r. inr (text_found physical_parts refl word r))))))))))))))
 
 bare_has : (word : List ℕ) → IsBare word → is_bare word ≡ true
 bare_has word (inl h) = or_left (bytes_eq word (codes "on")) (after_on word) (text_itself word (codes "on") h)
@@ -388,15 +396,20 @@ bare_has word (inr (inr (inl h))) =
     (or_left (is_some (kind_named word)) (after_kind word) (kind_has word h.0 h.1)))
 bare_has word (inr (inr (inr (inl h)))) =
     or_right (bytes_eq word (codes "on")) (after_on word) (or_right (bytes_eq word (codes "standby")) (is_some (kind_named word) || after_kind word)
-    (or_right (is_some (kind_named word)) (after_kind word) (or_left (is_text_or_dash (One Hex ∷ []) word) (is_pair word || is_text physical_parts word) (unit_has word h))))
+    (or_right (is_some (kind_named word)) (after_kind word) (or_left (is_text_or_dash (One Hex ∷ []) word) (is_pair word || after_pair word) (unit_has word h))))
 bare_has word (inr (inr (inr (inr (inl h))))) =
     or_right (bytes_eq word (codes "on")) (after_on word) (or_right (bytes_eq word (codes "standby")) (is_some (kind_named word) || after_kind word)
-    (or_right (is_some (kind_named word)) (after_kind word) (or_right (is_text_or_dash (One Hex ∷ []) word) (is_pair word || is_text physical_parts word)
-    (or_left (is_pair word) (is_text physical_parts word) (pair_has word h)))))
+    (or_right (is_some (kind_named word)) (after_kind word) (or_right (is_text_or_dash (One Hex ∷ []) word) (is_pair word || after_pair word)
+    (or_left (is_pair word) (after_pair word) (pair_has word h)))))
 bare_has word (inr (inr (inr (inr (inr h))))) =
     or_right (bytes_eq word (codes "on")) (after_on word) (or_right (bytes_eq word (codes "standby")) (is_some (kind_named word) || after_kind word)
-    (or_right (is_some (kind_named word)) (after_kind word) (or_right (is_text_or_dash (One Hex ∷ []) word) (is_pair word || is_text physical_parts word)
-    (or_right (is_pair word) (is_text physical_parts word) (text_have physical_parts refl word h)))))
+    (or_right (is_some (kind_named word)) (after_kind word) (or_right (is_text_or_dash (One Hex ∷ []) word) (is_pair word || after_pair word)
+    (or_right (is_pair word) (after_pair word) (more_have h)))))
+  where
+    more_have : IsTextOf three_parts word ⊎ (IsTextOf four_parts word ⊎ IsTextOf physical_parts word) → after_pair word ≡ true
+    more_have (inl three) = or_left (is_text three_parts word) (after_three word) (text_have three_parts refl word three)
+    more_have (inr (inl four)) = or_right (is_text three_parts word) (after_three word) (or_left (is_text four_parts word) (is_text physical_parts word) (text_have four_parts refl word four))
+    more_have (inr (inr phys)) = or_right (is_text three_parts word) (after_three word) (or_right (is_text four_parts word) (is_text physical_parts word) (text_have physical_parts refl word phys))
 
 -- ---- all
 

@@ -6,7 +6,7 @@ use Rattle.std.specs.List.{list_all, list_any}
 use Rattle.text_core.specs.Kind.{kind_named}
 use Rattle.text_core.specs.Number.{number_of}
 use Rattle.expect_text.specs.Parts.{has}
-use Rattle.expect_text.specs.StateWords.{key, note_parts, physical_parts, value_of}
+use Rattle.expect_text.specs.StateWords.{four_parts, key, note_parts, physical_parts, three_parts, value_of}
 use Rattle.expect_text.specs.declared.part.PatternPart.{PatternPart}
 use Rattle.expect_text.specs.declared.part.PatternPart.TheVariants.{Byte, One, Many, Word, Unworded, Opcode}
 use Rattle.expect_text.specs.declared.part.Class.TheVariants.{Hex}
@@ -92,7 +92,7 @@ is_pair word = by_one (has Hex) is_second word || bytes_eq word (codes "-+-")
 abbrev pub is_bare : List ℕ → Bool
 is_bare word =
     bytes_eq word (codes "on")
-    || (bytes_eq word (codes "standby") || (is_some (kind_named word) || (is_text_or_dash (One Hex ∷ []) word || (is_pair word || is_text physical_parts word))))
+    || (bytes_eq word (codes "standby") || (is_some (kind_named word) || (is_text_or_dash (One Hex ∷ []) word || (is_pair word || (is_text three_parts word || (is_text four_parts word || is_text physical_parts word))))))
 
 unfoldable pub is_state_word : List ℕ → Bool
 is_state_word word = is_bare word || list_any (is_of_field word) fields

@@ -24,6 +24,13 @@ physical_parts = One Hex ∷ Byte 46 ∷ One Hex ∷ Byte 46 ∷ One Hex ∷ Byt
 abbrev pub note_parts : List PatternPart
 note_parts = One Hex ∷ Byte 58 ∷ One Hex ∷ One Hex ∷ Byte 58 ∷ One Hex ∷ One Hex ∷ []
 
+-- three and four addresses, as a device from outside may hold
+abbrev pub three_parts : List PatternPart
+three_parts = One Hex ∷ Byte 43 ∷ One Hex ∷ Byte 43 ∷ One Hex ∷ []
+
+abbrev pub four_parts : List PatternPart
+four_parts = One Hex ∷ Byte 43 ∷ One Hex ∷ Byte 43 ∷ One Hex ∷ Byte 43 ∷ One Hex ∷ []
+
 -- what stands for no value
 abbrev pub IsDash : List ℕ → Type 0
 IsDash text = text ≡ codes "-"
@@ -93,14 +100,14 @@ IsField word = (field : StateField) × (text : List ℕ) × (word ≡ key field 
 abbrev pub IsUnit : List ℕ → Type 0
 IsUnit text = IsTextOf (One Hex ∷ []) text ⊎ IsDash text
 
--- those of two units, of which the second one settles last
+-- those of two units, of which the second one settles last, and two that a device from outside holds
 abbrev pub IsPair : List ℕ → Type 0
 IsPair word = ((first second : List ℕ) × (word ≡ first ++ 43 ∷ second) × IsTextOf (One Hex ∷ []) first × IsUnit second) ⊎ (word ≡ codes "-+-")
 
 -- the power, a kind, logical addresses, or a physical address
 abbrev pub IsBare : List ℕ → Type 0
 IsBare word =
-    (word ≡ codes "on") ⊎ ((word ≡ codes "standby") ⊎ (((kind : Kind) × (word ≡ kind_word kind)) ⊎ (IsUnit word ⊎ (IsPair word ⊎ IsTextOf physical_parts word))))
+    (word ≡ codes "on") ⊎ ((word ≡ codes "standby") ⊎ (((kind : Kind) × (word ≡ kind_word kind)) ⊎ (IsUnit word ⊎ (IsPair word ⊎ (IsTextOf three_parts word ⊎ (IsTextOf four_parts word ⊎ IsTextOf physical_parts word))))))
 
 -- a word that a state line can have
 abbrev pub IsStateWord : List ℕ → Type 0

@@ -80,6 +80,25 @@ const PHYSICAL: &[PatternPart] = &[
     PatternPart::One(Class::Hex),
 ];
 
+// Three and four addresses, as a device from outside may hold.
+const THREE: &[PatternPart] = &[
+    PatternPart::One(Class::Hex),
+    PatternPart::Byte(b'+'),
+    PatternPart::One(Class::Hex),
+    PatternPart::Byte(b'+'),
+    PatternPart::One(Class::Hex),
+];
+
+const FOUR: &[PatternPart] = &[
+    PatternPart::One(Class::Hex),
+    PatternPart::Byte(b'+'),
+    PatternPart::One(Class::Hex),
+    PatternPart::Byte(b'+'),
+    PatternPart::One(Class::Hex),
+    PatternPart::Byte(b'+'),
+    PatternPart::One(Class::Hex),
+];
+
 const NOTE: &[PatternPart] = &[
     PatternPart::One(Class::Hex),
     PatternPart::Byte(b':'),
@@ -306,6 +325,8 @@ fn is_bare(word: &[u8]) -> bool
         || Kind::named(word).is_some()
         || is_text_or_dash(NIBBLE, word)
         || is_pair(word)
+        || is_text(THREE, word)
+        || is_text(FOUR, word)
         || is_text(PHYSICAL, word)
 }
 

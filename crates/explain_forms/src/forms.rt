@@ -74,7 +74,7 @@ fn add_script_line(draft: &mut Draft, at: FaultyLine<'_>, word: usize) -> bool {
     }
     if word >= 4 && is_word(at.text, 2, "hold") {
         draft.add_line(
-            "ADDRS is `-` for none, or one or two logical addresses, 0 to e: `4`, `4+8`",
+            "ADDRS is `-` for none, or one to four logical addresses, 0 to e: `4`, `4+8`",
         );
     }
     is_key && add_key(draft, at.place, at.text, word)
@@ -123,9 +123,17 @@ fn add_script(draft: &mut Draft, at: FaultyLine<'_>, cause: ScriptCause, word: u
     match cause {
         ScriptCause::Word => return add_script_line(draft, at, word),
         ScriptCause::Order => add_order(draft, at.place),
-        ScriptCause::Frame(cause) => add_frame(draft, cause, Spot { at, word: 4 }),
-        ScriptCause::Number
-        | ScriptCause::Name
+        ScriptCause::Frame(cause) => {
+            let word = frame_start(cause, word);
+            add_frame(draft, cause, Spot { at, word });
+        }
+        ScriptCause::Number => {
+            if is_word(at.text, 4, "attempts") {
+                draft.add_line("a frame has 1 to 6 attempts in all");
+            }
+        }
+        ScriptCause::Name
+        | ScriptCause::Hex
         | ScriptCause::Width
         | ScriptCause::Close
         | ScriptCause::TooMany
@@ -229,6 +237,11 @@ fn add_laid(draft: &mut Draft, at: FaultyLine<'_>, cause: LayCause, word: usize)
     }
 }
 
+// Whether a line is a timing for which its extension has no room, which is then said.
+fn is_past_room(draft: &mut Draft, place: InputLine<'_>, line: &str) -> bool {
+    is_word(line, 0, "timing") && add_lack_of_room(draft, place)
+}
+
 // What the fields of a line of an EDID's text are, or that its extension has no room for it. Returns whether more would be of no
 // use.
 fn add_fields(draft: &mut Draft, at: FaultyLine<'_>) -> bool {
@@ -260,7 +273,9 @@ pub fn add_right_forms(draft: &mut Draft, at: FaultyLine<'_>) -> bool {
         InputFault::Frame { cause, .. } => add_frame(draft, cause, Spot { at, word: 0 }),
         InputFault::Lay { cause, word, .. } => add_laid(draft, at, cause, word),
         InputFault::TextField { .. } => return add_fields(draft, at),
-        InputFault::TextSyntax { .. } => return add_field_count(draft, line),
+        InputFault::TextSyntax { .. } => {
+            return is_past_room(draft, at.place, line) || add_field_count(draft, line);
+        }
         InputFault::Past { .. }
         | InputFault::Range(_)
         | InputFault::Hex { .. }

@@ -232,7 +232,7 @@ fn of_script_number(draft: &mut Draft, spot: Spot<'_>, word: &str) {
 // What a name of a script may have been meant for: a word, or one in the header of a frame.
 fn of_script_name(draft: &mut Draft, spot: Spot<'_>, word: &str) {
     let (line, number) = (spot.at.text, spot.word);
-    if number == 4 && is_word(line, 2, "send") {
+    if number >= 4 && is_word(line, 2, "send") {
         add_header_name_meant(draft, spot, word);
     } else if number != 3 || !is_word(line, 2, "hold") || !add_exchanged(draft, spot) {
         add_name_meant(draft, spot, word);
@@ -254,7 +254,8 @@ fn of_script(draft: &mut Draft, cause: ScriptCause, spot: Spot<'_>) {
         ScriptCause::Number => of_script_number(draft, spot, word),
         ScriptCause::Word => of_script_word(draft, spot, word),
         ScriptCause::Frame(cause) => of_script_frame(draft, cause, spot),
-        ScriptCause::Width
+        ScriptCause::Hex
+        | ScriptCause::Width
         | ScriptCause::Order
         | ScriptCause::Close
         | ScriptCause::TooMany

@@ -38,7 +38,7 @@ const TOPOLOGY: &[&str] = &[
 
 /// The causes for which a script is refused, but for `frame` and the cause of a frame.
 const SCRIPT: &[&str] = &[
-    "word", "number", "name", "width", "order", "close", "too-many", "end",
+    "word", "number", "name", "hex", "width", "order", "close", "too-many", "end",
 ];
 
 // Whether a kind has a key. A switch with a port stands for all switches.

@@ -16,6 +16,8 @@ const OF_SCRIPT: &[&str] = &[
     "at T plug CHILD PARENT PORT",
     "at T unplug CHILD",
     "at T send NAME FRAME",
+    "at T send NAME hex HEX",
+    "at T send NAME attempts N FRAME",
     "at T hold NAME ADDRS",
     "at T drop NAME",
     "pulse T WIDTH",
@@ -102,10 +104,13 @@ const BESIDE_READINGS: &[&str] = &[
 const OF_SESSION: &[&str] = &[
     "run to T",
     "wait",
+    "wait T",
     "show NAME",
     "edge T",
     "edges on",
     "edges off",
+    "seats on",
+    "seats off",
 ];
 
 // The lines of frames to lay.
@@ -182,14 +187,29 @@ fn is_opcode(word: &str) -> bool {
     word.len() == 2 && word.bytes().all(is_digit)
 }
 
-// Whether a word says what a device from outside holds: `-`, or one or two logical addresses.
-fn is_held(word: &str) -> bool {
-    match word.as_bytes() {
-        b"-" => true,
-        [one] => is_address(*one),
-        [first, b'+', second] => is_address(*first) && is_address(*second) && first != second,
-        _ => false,
+// Whether a digit stands once in a word.
+fn stands_once(word: &str, digit: u8) -> bool {
+    let mut count = 0usize;
+    for other in word.bytes() {
+        if other == digit {
+            count = count.saturating_add(1);
+        }
     }
+    count == 1
+}
+
+// Whether a word says what a device from outside holds: `-`, or one to four logical addresses.
+fn is_held(word: &str) -> bool {
+    if word == "-" {
+        return true;
+    }
+    for part in word.split('+') {
+        match part.as_bytes() {
+            [digit] if is_address(*digit) && stands_once(word, *digit) => {}
+            _ => return false,
+        }
+    }
+    word.len() <= 7
 }
 
 // Whether a word may stand where a form has another.

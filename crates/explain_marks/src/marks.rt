@@ -81,6 +81,7 @@ fn in_frame(cause: AssembleError) -> Option<Mark> {
 fn in_script(cause: ScriptCause, word: usize) -> Option<Mark> {
     match cause {
         ScriptCause::Frame(cause) => of_frame(cause, word),
+        ScriptCause::Hex => from(word),
         ScriptCause::Word
         | ScriptCause::Number
         | ScriptCause::Name

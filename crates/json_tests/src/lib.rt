@@ -13,5 +13,3 @@ mod rooms;
 mod rows;
 #[cfg(test)]
 mod runs;
-#[cfg(test)]
-mod sessions;

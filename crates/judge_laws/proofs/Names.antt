@@ -20,6 +20,7 @@ use Rattle.device_features.specs.declared.say.Say.TheVariants.{Reply, Cast, Repo
 use Rattle.device_features.specs.Effect.{Effect}
 use Rattle.device_features.specs.Effects.{effect_of, heard_of, refuses}
 use Rattle.device_features.specs.Keys.{pressing, releasing}
+use Rattle.device_core.specs.declared.device.Ticket.{Ticket}
 use Rattle.device_core.specs.declared.device.SubmitError.{SubmitError}
 use Rattle.device_core.specs.declared.keys.KeyError.{KeyError}
 use Rattle.line_frames.specs.declared.free_time.FreeTime.TheVariants.{Retry}
@@ -30,7 +31,7 @@ use Rattle.device_core.specs.Keys.{key_fault, after_key, keyed_by, own_doing}
 use Rattle.device_core.specs.declared.outside.Act.{Act}
 use Rattle.device_core.specs.declared.outside.Act.TheVariants.{Hold, Empty}
 use Rattle.device_core.specs.Outside.{act_fault, after_act, acted_by}
-use Rattle.device_core.specs.Place.{class_of_poll, after_front, after_failure, frame_sent, front_is_poll, is_on_wire, polled_at, sent_by, place_after_fate, submit_fault, after_submission, submitted_by}
+use Rattle.device_core.specs.Place.{class_of_poll, after_front, after_failure, frame_sent, front_is_counted, front_is_poll, most_again, is_on_wire, polled_at, sent_by, place_after_fate, submit_fault, after_submission, submitted_by}
 use Rattle.room_event.specs.declared.event.Event.{Event}
 use Rattle.room_event.specs.declared.event.Event.TheVariants.{Plug, Unplug, Key as KeyEvent, Send, SendNamed, Outside}
 use Rattle.room_event.specs.declared.event.EventError.{EventError}
@@ -81,22 +82,22 @@ name-keyed_by limit at key press d None =
     name-effected limit (own_doing at) (if press then pressing d.kind d.phys d.record_of key else releasing d.kind d.record_of key) d
 name-keyed_by limit at key press d (Some fault) = refl
 
-name-submitted_by : (at : ℕ) (frame : List ℕ) (d : State) (fault : Option SubmitError) → (submitted_by d frame at fault).name ≡ d.name
-name-submitted_by at frame d None = refl
-name-submitted_by at frame d (Some fault) = refl
+name-submitted_by : (at : ℕ) (frame : List ℕ) (ticket : Ticket) (d : State) (fault : Option SubmitError) → (submitted_by d frame ticket at fault).name ≡ d.name
+name-submitted_by at frame ticket d None = refl
+name-submitted_by at frame ticket d (Some fault) = refl
 
 name-acted_by : (d : State) (fault : Option KeyError) (act : Act) → (acted_by d fault act).name ≡ d.name
 name-acted_by d (Some fault) act = refl
-name-acted_by d None (Hold first second) = refl
+name-acted_by d None (Hold first second more) = refl
 name-acted_by d None Empty = refl
 
 -- ---- fates
 
 name-failed : (d : State) → (after_failure d).name ≡ d.name
-name-failed d = two (nat_lt d.attempts 5) (record d { attempts = d.attempts + 1; class = Retry }) (after_front d) d.name refl refl
+name-failed d = two (nat_lt d.attempts (most_again d.queue)) (record d { attempts = d.attempts + 1; class = Retry }) (after_front d) d.name refl refl
 
 name-frame_sent : (fate : Fate) (d : State) → (frame_sent d fate).name ≡ d.name
-name-frame_sent Lost d = refl
+name-frame_sent Lost d = two (front_is_counted d.queue) (after_failure d) d d.name (name-failed d) refl
 name-frame_sent Delivered d = refl
 name-frame_sent Unacked d = two (front_is_poll d.queue) (after_front d) (after_failure d) d.name refl (name-failed d)
 name-frame_sent Broken d = two (front_is_poll d.queue) (record d { class = Retry }) (after_failure d) d.name refl (name-failed d)
@@ -133,17 +134,17 @@ names-changed number f [] step = refl
 names-changed zero f (x ∷ xs) step = ap (λ a. a ∷ names_of xs) (step x)
 names-changed (suc number) f (x ∷ xs) step = ap (λ bs. x.name ∷ bs) (names-changed number f xs step)
 
-names-sent : (at device : ℕ) (frame : Option (List ℕ)) (s : NetState) → names_of (after_sent at device frame s).devices ≡ names_of s.devices
-names-sent at device None s = refl
-names-sent at device (Some frame) s = names-changed device (λ d. after_submission 16 d frame at) s.devices (λ d. name-submitted_by at frame d (submit_fault 16 d frame))
+names-sent : (at device : ℕ) (frame : Option (List ℕ)) (ticket : Ticket) (s : NetState) → names_of (after_sent at device frame ticket s).devices ≡ names_of s.devices
+names-sent at device None ticket s = refl
+names-sent at device (Some frame) ticket s = names-changed device (λ d. after_submission 16 d frame ticket at) s.devices (λ d. name-submitted_by at frame ticket d (submit_fault 16 d frame))
 
 names-unless : (fault : Option EventError) (at : ℕ) (event : Event) (s : NetState) → names_of (applied_unless fault at event s).devices ≡ names_of s.devices
 names-unless (Some error) at event s = refl
 names-unless None at (Plug child parent port) s = names-each 0 at _ s.devices
 names-unless None at (Unplug child) s = names-each 0 at _ s.devices
 names-unless None at (KeyEvent device key press) s = names-changed device (λ d. after_key 16 d key press at) s.devices (λ d. name-keyed_by 16 at key press d (key_fault d key))
-names-unless None at (Send device frame) s = names-sent at device (Some frame) s
-names-unless None at (SendNamed device names frame) s = names-sent at device (named_frame s.devices names frame) s
+names-unless None at (Send device frame ticket) s = names-sent at device (Some frame) ticket s
+names-unless None at (SendNamed device names frame ticket) s = names-sent at device (named_frame s.devices names frame) ticket s
 names-unless None at (Outside device act) s = names-changed device (λ d. after_act d act) s.devices (λ d. name-acted_by d (act_fault d) act)
 
 pub names_applied : (at : ℕ) (event : Event) (s : NetState) → names_of (net_after at event s).devices ≡ names_of s.devices
@@ -161,17 +162,17 @@ names-plug [] child plug = refl
 names-plug (node ∷ tree) zero plug = refl
 names-plug (node ∷ tree) (suc child) plug = ap (λ ns. node.name ∷ ns) (names-plug tree child plug)
 
-tree-sent : (at device : ℕ) (frame : Option (List ℕ)) (s : NetState) → names_in (after_sent at device frame s).tree ≡ names_in s.tree
-tree-sent at device None s = refl
-tree-sent at device (Some frame) s = refl
+tree-sent : (at device : ℕ) (frame : Option (List ℕ)) (ticket : Ticket) (s : NetState) → names_in (after_sent at device frame ticket s).tree ≡ names_in s.tree
+tree-sent at device None ticket s = refl
+tree-sent at device (Some frame) ticket s = refl
 
 tree-unless : (fault : Option EventError) (at : ℕ) (event : Event) (s : NetState) → names_in (applied_unless fault at event s).tree ≡ names_in s.tree
 tree-unless (Some error) at event s = refl
 tree-unless None at (Plug child parent port) s = names-plug s.tree child _
 tree-unless None at (Unplug child) s = names-plug s.tree child _
 tree-unless None at (KeyEvent device key press) s = refl
-tree-unless None at (Send device frame) s = refl
-tree-unless None at (SendNamed device names frame) s = tree-sent at device (named_frame s.devices names frame) s
+tree-unless None at (Send device frame ticket) s = refl
+tree-unless None at (SendNamed device names frame ticket) s = tree-sent at device (named_frame s.devices names frame) ticket s
 tree-unless None at (Outside device act) s = refl
 
 pub tree_applied : (at : ℕ) (event : Event) (s : NetState) → names_in (net_after at event s).tree ≡ names_in s.tree

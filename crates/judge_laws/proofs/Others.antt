@@ -18,7 +18,7 @@ use Rattle.capture_core.proofs.Numbers.{number_again}
 use Rattle.capture_core.proofs.Texts.{shown}
 use Rattle.message_table.specs.DeckWords.{deck_info_byte}
 use Rattle.device_features.specs.declared.record.HeardReport.{HeardReport}
-use Rattle.device_core.specs.State.{State, addresses_held}
+use Rattle.device_core.specs.State.{State, addresses_held, held_by}
 use Rattle.device_core.specs.Place as place
 use Rattle.device_core.specs.declared.device.SubmitError.TheVariants as submit
 use Rattle.device_core.specs.declared.keys.KeyError.TheVariants as key
@@ -30,7 +30,7 @@ use Rattle.audit_core.specs.Kept.{IsPlain}
 use Rattle.audit_core.proofs.Plain.{plain_codes, plain_decimal, plain_hex, plain_more, plain_nibble, plain_phys}
 use Rattle.room_trace.specs.PortText.{lines_of_new, lines_of_ports, name_in, port_line, port_line_of, port_lines}
 use Rattle.text_core.specs.Kind.{kind_word}
-use Rattle.room_trace.specs.StateText.{address_text, held_text, language_bytes, note_text, outside_line, phys_on, power_text, state_line, state_line_of, unit_text}
+use Rattle.room_trace.specs.StateText.{address_text, held_text, language_bytes, more_text, note_text, outside_line, phys_on, power_text, state_line, state_line_of, unit_text}
 use Rattle.device_features.specs.Kinds.{is_outside}
 use Rattle.room_trace.specs.TraceText.{end_line, error_word, event_line}
 use Rattle.expect_judge.specs.Told.{EventLine, RoundLine, event_by, event_in, round_by, round_in, reported_in}
@@ -143,12 +143,15 @@ plain_address Combo [] = tt
 plain_address Combo (u ∷ []) = plain_unit u
 plain_address Combo (u ∷ v ∷ us) = plain_more (unit_text u ++ codes "+") (unit_text v) (plain_more (unit_text u) (codes "+") (plain_unit u) (plain_codes (codes "+") refl)) (plain_unit v)
 
+plain_others : (units : List (Option ℕ)) → IsPlain (flat_map more_text units)
+plain_others [] = tt
+plain_others (None ∷ us) = plain_others us
+plain_others (Some v ∷ us) =
+    plain_more (codes "+" ++ unit_text (Some v)) (flat_map more_text us) (plain_more (codes "+") (unit_text (Some v)) (plain_codes (codes "+") refl) (plain_unit (Some v))) (plain_others us)
+
 plain_held : (units : List (Option ℕ)) → IsPlain (held_text units)
-plain_held [] = tt
-plain_held (u ∷ []) = plain_unit u
-plain_held (u ∷ None ∷ us) = plain_unit u
-plain_held (u ∷ Some v ∷ us) =
-    plain_more (unit_text u ++ codes "+") (unit_text (Some v)) (plain_more (unit_text u) (codes "+") (plain_unit u) (plain_codes (codes "+") refl)) (plain_unit (Some v))
+plain_held [] = plain_codes (codes "-") refl
+plain_held (u ∷ us) = plain_more (unit_text u) (flat_map more_text us) (plain_unit u) (plain_others us)
 
 plain_power : (on : Bool) → IsPlain (power_text on)
 plain_power true = plain_codes (codes "on") refl
@@ -206,11 +209,11 @@ inside_reported d =
     (closed_more (decimal d.dropped) (plain_decimal d.dropped) closed_last)))))))))))))))))))))))))))))))))))))) in
     record { body = tail.body; plain = tail.plain; whole = ap (λ t. codes "state" ++ 32 ∷ (d.name ++ 32 ∷ t)) tail.same ∙ ap (λ t. codes "state" ++ 32 ∷ t) (sym (append_assoc d.name (32 ∷ tail.body) (10 ∷ []))) }
 
-outside_reported : (d : State) → LineReported d.name (outside_line d (held_text (addresses_held d.place)))
+outside_reported : (d : State) → LineReported d.name (outside_line d (held_text (held_by d)))
 outside_reported d =
     let tail =
     closed_more (kind_word d.kind) (plain_kind d.kind) (lit (codes " ") refl
-    (closed_more (held_text (addresses_held d.place)) (plain_held (addresses_held d.place)) (lit (codes " ") refl
+    (closed_more (held_text (held_by d)) (plain_held (held_by d)) (lit (codes " ") refl
     (closed_more (dash_or phys_text (phys_on (place.is_on_wire d) d.phys)) (plain_dash phys_text (phys_on (place.is_on_wire d) d.phys) plain_phys)
     (lit (codes " - active=- path=- deck=- menu=- audio=- volume=- mute=- arc=- sel=- lang=- osd=- held=- heard=- sub=- queue=") refl
     (closed_more (decimal (length d.queue)) (plain_decimal (length d.queue)) (lit (codes " dropped=") refl
@@ -220,7 +223,7 @@ outside_reported d =
 pub state_reported : (d : State) → StateReported d
 state_reported d = either (is_outside d.kind)
   where
-    either : (b : Bool) → LineReported d.name (if b then outside_line d (held_text (addresses_held d.place))
+    either : (b : Bool) → LineReported d.name (if b then outside_line d (held_text (held_by d))
         else state_line_of d (address_text d.kind (addresses_held d.place)) (language_bytes d.record_of.language) (dash_or note_text d.record_of.heard))
     either true = outside_reported d
     either false = inside_reported d

@@ -16,9 +16,9 @@ use Rattle.room_event.specs.declared.event.HeaderNames.{HeaderNames}
 use Rattle.text_core.specs.Lines.{is_skipped, lines_of, without_empty_end}
 use Rattle.text_core.specs.Number.{number_of}
 use Rattle.text_core.specs.Words.{one_of, three_of, two_of, words_of}
-use Rattle.message_text.specs.declared.assembler.AssembleError.{AssembleError}
 use Rattle.room_script.specs.Keys.{key_of}
 use Rattle.room_script.specs.Header.{header_names}
+use Rattle.room_script.specs.Sending.{handed_in}
 use Rattle.room_script.specs.Holding.{hold_of}
 use Rattle.device_core.specs.declared.outside.Act.{Act}
 use Rattle.device_core.specs.declared.outside.Act.TheVariants.{Empty}
@@ -27,7 +27,7 @@ use Rattle.text_core.specs.declared.at.AtWord.{AtWord}
 use Rattle.room_script.specs.declared.script.ScriptCause.{ScriptCause}
 use Rattle.room_script.specs.declared.script.ScriptCause.TheVariants as causes
 use Rattle.room_script.specs.declared.script.TimedEvent.{TimedEvent}
-use Rattle.room_script.specs.Script.{AreLinesRead, Course, IsEventRead, IsLineRead, IsScriptRead, IsSendRead, IsWordsRead, Notes, Onward, end_read, end_words, course_at_end, event_words, key_read, key_words, act_read, hold_words, drop_words, last_end, last_time, no_notes, other_words, plug_read, plug_words, span_read, pulse_read, pulse_words, pull_read, pull_words, pulse_refusal, touches, is_before, level_of, notes_with_level, pin_read, pin_words, pulses_ended, notes_with_event, frame_event, send_read, time_of, unless_fault, unplug_read, unplug_words}
+use Rattle.room_script.specs.Script.{AreLinesRead, Course, IsEventRead, IsLineRead, IsScriptRead, IsHandedRead, IsSendRead, IsWordsRead, Notes, Onward, end_read, end_words, course_at_end, event_words, key_read, key_words, act_read, hold_words, drop_words, last_end, last_time, no_notes, other_words, plug_read, plug_words, span_read, pulse_read, pulse_words, pull_read, pull_words, pulse_refusal, touches, is_before, level_of, notes_with_level, pin_read, pin_words, pulses_ended, notes_with_event, frame_event, send_read, time_of, unless_fault, unplug_read, unplug_words}
 use Rattle.line_wave.specs.Bounds.{most_pulses, most_pulls, widest_pull}
 
 -- no event stands below this line
@@ -113,23 +113,31 @@ fits_event_words tree notes line time verb words h =
     (fits_if line (bytes_eq verb (codes "hold")) (hold_words tree notes line time (length words) (two_of words)) _ (fits_hold_words tree notes line time (length words) (two_of words) h)
     (fits_if line (bytes_eq verb (codes "drop")) (drop_words tree notes line time (length words) (one_of words)) (Err (at_word 2 causes.Word)) (fits_drop_words tree notes line time (length words) (one_of words) h) tt)))))
 
-fits_send : (notes : Notes) (line : ℕ) (time device : Option ℕ) (names : Option (Option HeaderNames)) (frame : Result (List ℕ) AssembleError) → AreBy line notes.events → Fits line (send_read notes line time device names frame)
+fits_send : (notes : Notes) (line word : ℕ) (time : Option ℕ) (attempts : Option (Option ℕ)) (device : Option ℕ) (names : Option (Option HeaderNames)) (frame : Result (List ℕ) (AtWord ScriptCause)) → AreBy line notes.events
+    → Fits line (send_read notes line word time attempts device names frame)
 unfolding Fits
-fits_send notes line None device names frame h = tt
-fits_send notes line (Some time) None names frame h = tt
-fits_send notes line (Some time) (Some device) None frame h = tt
-fits_send notes line (Some time) (Some device) (Some names) (Err cause) h = tt
-fits_send notes line (Some time) (Some device) (Some names) (Ok frame) h = fits_scheduled notes line time (frame_event device names frame) h
+fits_send notes line word None attempts device names frame h = tt
+fits_send notes line word (Some time) None device names frame h = tt
+fits_send notes line word (Some time) (Some attempts) None names frame h = tt
+fits_send notes line word (Some time) (Some attempts) (Some device) None frame h = tt
+fits_send notes line word (Some time) (Some attempts) (Some device) (Some names) (Err fault) h = tt
+fits_send notes line word (Some time) (Some attempts) (Some device) (Some names) (Ok frame) h = fits_scheduled notes line time (frame_event device (record { line = line; attempts = attempts }) names frame) h
 
 fits_as : (line : ℕ) (r s : Result Notes (AtWord ScriptCause)) → r ≡ s → Fits line s → Fits line r
 fits_as line r s e h = subst (Fits line) (sym e) h
 
+fits_handed : (tree : List Node) (notes : Notes) (line : ℕ) (time name : List ℕ) (at : ℕ) (attempts : Option (Option ℕ)) (words : List (List ℕ)) (read : Result Notes (AtWord ScriptCause)) → AreBy line notes.events
+    → IsHandedRead tree notes line time name at attempts words read → Fits line read
+unfolding Fits
+fits_handed tree notes line time name at attempts [] read h r = fits_as line read (Err (at_word at causes.Word)) r tt
+fits_handed tree notes line time name at attempts (word ∷ words) read h r =
+    fits_as line read (send_read notes line at (time_of time) attempts (device_named tree name) (header_names tree word) r.0) r.2
+    (fits_send notes line at (time_of time) attempts (device_named tree name) (header_names tree word) r.0 h)
+
 fits_send_words : (tree : List Node) (notes : Notes) (line : ℕ) (time : List ℕ) (words : List (List ℕ)) (read : Result Notes (AtWord ScriptCause)) → AreBy line notes.events → IsSendRead tree notes line time words read → Fits line read
 unfolding Fits
 fits_send_words tree notes line time [] read h r = fits_as line read (Err (at_word 3 causes.Word)) r tt
-fits_send_words tree notes line time (name ∷ []) read h r = fits_as line read (Err (at_word 4 causes.Word)) r tt
-fits_send_words tree notes line time (name ∷ word ∷ words) read h r =
-    fits_as line read (send_read notes line (time_of time) (device_named tree name) (header_names tree word) r.0) r.2 (fits_send notes line (time_of time) (device_named tree name) (header_names tree word) r.0 h)
+fits_send_words tree notes line time (name ∷ words) read h r = fits_handed tree notes line time name (handed_in words).at (handed_in words).attempts (handed_in words).words read h r
 
 fits_event : (tree : List Node) (notes : Notes) (line : ℕ) (words : List (List ℕ)) (read : Result Notes (AtWord ScriptCause)) → AreBy line notes.events → IsEventRead tree notes line words read → Fits line read
 unfolding Fits

@@ -1,7 +1,7 @@
 -- The numbers of answers (this profile's own).
 use Rattle.std.specs.Prelude.{ℕ}
 use Rattle.library_answers.specs.declared.code.Code.{Code}
-use Rattle.library_answers.specs.declared.code.Code.TheVariants.{Done, Room, State, Late, Absent, Heard, Closed, Line, FrameEmpty, FrameTooLong, TextAddress, TextName, TextTooLong, TextCount, TextOperand, EdidLength, EdidCount, EdidHeader, EdidChecksum, EdidRevision, EdidMaker, EdidFirst, EdidSecond, EdidThird, EdidNoHdmiBlock, EdidTextSyntax, EdidTextField, Memory, TopologyWord, TopologyNumber, TopologyName, TopologyFull, TopologySecondRoot, TopologyNoRoot, TopologyPortRange, TopologyPortTaken, TopologyNotLoose, TopologyLoop, TopologyHex, ScriptWord, ScriptNumber, ScriptName, ScriptWidth, ScriptOrder, ScriptClose, ScriptTooMany, ScriptEnd, ExpectWord, ExpectNumber, ExpectLabel, ExpectOrder, EdgesLine, EdgesOrder}
+use Rattle.library_answers.specs.declared.code.Code.TheVariants.{Done, Room, State, Late, Absent, Heard, Closed, Line, FrameEmpty, FrameTooLong, TextAddress, TextName, TextTooLong, TextCount, TextOperand, EdidLength, EdidCount, EdidHeader, EdidChecksum, EdidRevision, EdidMaker, EdidFirst, EdidSecond, EdidThird, EdidNoHdmiBlock, EdidTextSyntax, EdidTextField, Memory, TopologyWord, TopologyNumber, TopologyName, TopologyFull, TopologySecondRoot, TopologyNoRoot, TopologyPortRange, TopologyPortTaken, TopologyNotLoose, TopologyLoop, TopologyHex, ScriptWord, ScriptNumber, ScriptName, ScriptWidth, ScriptOrder, ScriptClose, ScriptTooMany, ScriptEnd, ScriptHex, ExpectWord, ExpectNumber, ExpectLabel, ExpectOrder, EdgesLine, EdgesOrder}
 
 abbrev pub number_of : Code → ℕ
 number_of Done = 0
@@ -51,6 +51,7 @@ number_of ScriptOrder = 84
 number_of ScriptClose = 85
 number_of ScriptTooMany = 86
 number_of ScriptEnd = 87
+number_of ScriptHex = 88
 number_of ExpectWord = 90
 number_of ExpectNumber = 91
 number_of ExpectLabel = 92

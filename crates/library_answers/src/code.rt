@@ -100,6 +100,8 @@ pub enum Code {
     ScriptTooMany,
     /// There is no `end`, a line after it, or it is not after every event.
     ScriptEnd,
+    /// There are no bytes of a frame in hex.
+    ScriptHex,
     /// There is no such expectation, its pattern is too long, or nothing follows a label.
     ExpectWord,
     /// There is no number in an expectation.
@@ -167,6 +169,7 @@ impl Code {
             Code::ScriptClose => 85,
             Code::ScriptTooMany => 86,
             Code::ScriptEnd => 87,
+            Code::ScriptHex => 88,
             Code::ExpectWord => 90,
             Code::ExpectNumber => 91,
             Code::ExpectLabel => 92,

@@ -231,6 +231,7 @@ fn causes_of_scripts_have_numbers(rt: HostRuntime) {
     script(&rt, ScriptCause::Close, 85);
     script(&rt, ScriptCause::TooMany, 86);
     script(&rt, ScriptCause::End, 87);
+    script(&rt, ScriptCause::Hex, 88);
 }
 
 fn expectation(rt: &impl Abort, cause: ExpectCause, code: u32) {

@@ -3,6 +3,7 @@ use Rattle.std.specs.Prelude.{◌≡◌, ℕ, ◌⊎◌, ◌&&◌, ◌==◌, Boo
 use Rattle.std.specs.Fmt.{decimal}
 use Rattle.std.specs.List.{list_any}
 use Rattle.text_core.specs.Held.{held_bytes}
+use Rattle.record_core.specs.declared.cell.Form.TheVariants.{Text}
 use Rattle.live_session.specs.Session.{Session}
 use Rattle.live_session.specs.Whole.{IsLine}
 use Rattle.live_dialogue.specs.declared.error.SessionError.{SessionError}
@@ -23,7 +24,7 @@ use Rattle.library_live.specs.declared.talk.LineFault.TheVariants as faults
 
 -- what stands before the first answer is said of a session that has begun
 abbrev pub IsTalkBegun : List ℕ → Result Talk SessionError → Type 0
-IsTalkBegun topology (Ok talk) = HasBegun topology talk.live × (held_bytes talk.said ≡ first_reported talk.live)
+IsTalkBegun topology (Ok talk) = HasBegun Text topology talk.live × (held_bytes talk.said ≡ first_reported talk.live)
 IsTalkBegun topology (Err error) = IsTopologyFault topology error
 
 abbrev pub open_answer : SessionError → Answer
@@ -59,7 +60,7 @@ abbrev pub IsLineHeard : Talk → List ℕ → Talk → Result Unit LineFault �
 IsLineHeard s line t (Ok done) = (is_fit line ≡ true) × IsSaid s.live line t.live (held_bytes t.said)
 IsLineHeard s line t (Err faults.Closed) = IsSome s.live.notes.end × (t ≡ s)
 IsLineHeard s line t (Err faults.Line) = (s.live.notes.end ≡ None) × (is_fit line ≡ false) × (t ≡ s)
-IsLineHeard s line t (Err faults.Memory) = Unit {0}
+IsLineHeard s line t (Err faults.Memory) = (s.live.notes.end ≡ None) × (is_fit line ≡ true)
 
 -- `pin T 0` and `pin T 1`, `edge T`
 abbrev pub pin_line : ℕ → Bool → List ℕ
@@ -81,7 +82,7 @@ IsLineFault None line after faults.Line = ⊥
 IsLineFault None line after faults.Memory = ⊥
 IsLineFault (Some s) line after faults.Closed = IsSome s.live.notes.end × (after ≡ Some s)
 IsLineFault (Some s) line after faults.Line = (s.live.notes.end ≡ None) × (is_fit line ≡ false) × (after ≡ Some s)
-IsLineFault (Some s) line after faults.Memory = after ≡ None
+IsLineFault (Some s) line after faults.Memory = (s.live.notes.end ≡ None) × (is_fit line ≡ true) × (after ≡ None)
 
 abbrev pub AnswersLine : List ℕ → Option Talk → Option Talk → List ℕ → List ℕ → Answer → Type 0
 AnswersLine line before after old new answer =

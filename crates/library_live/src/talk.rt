@@ -7,6 +7,7 @@ use library_run::run_refused;
 use live_dialogue::{SessionError, begin};
 use live_incoming::LONGEST_LINE;
 use live_session::Live;
+use record_core::Form;
 use room_run::emulate::EmulateError;
 use std::alloc::Global;
 use text_core::Held;
@@ -84,7 +85,7 @@ impl Talk {
     pub(crate) fn begin(alloc: Global, topology: &[u8]) -> Result<Talk, SessionError>
         ensures { IsTalkBegun topology.now result }
     {
-        let live = match begin(alloc, topology) {
+        let live = match begin(alloc, Form::Text, topology) {
             Ok(live) => live,
             Err(error) => return Err(error),
         };

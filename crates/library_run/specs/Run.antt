@@ -14,7 +14,7 @@ use Rattle.library_answers.specs.Faults.{edid_code, text_code}
 use Rattle.library_answers.specs.Room.{IsPut, refusal}
 use Rattle.library_answers.specs.declared.answer.Answer.{Answer}
 use Rattle.library_answers.specs.declared.code.Code.{Code}
-use Rattle.library_answers.specs.declared.code.Code.TheVariants.{EdidNoHdmiBlock, Memory, TopologyWord, TopologyNumber, TopologyName, TopologyFull, TopologySecondRoot, TopologyNoRoot, TopologyPortRange, TopologyPortTaken, TopologyNotLoose, TopologyLoop, TopologyHex, ScriptWord, ScriptNumber, ScriptName, ScriptWidth, ScriptOrder, ScriptClose, ScriptTooMany, ScriptEnd}
+use Rattle.library_answers.specs.declared.code.Code.TheVariants.{EdidNoHdmiBlock, Memory, TopologyWord, TopologyNumber, TopologyName, TopologyFull, TopologySecondRoot, TopologyNoRoot, TopologyPortRange, TopologyPortTaken, TopologyNotLoose, TopologyLoop, TopologyHex, ScriptWord, ScriptNumber, ScriptName, ScriptWidth, ScriptOrder, ScriptClose, ScriptTooMany, ScriptEnd, ScriptHex}
 
 abbrev pub topology_code : TopologyCause → Code
 topology_code topologies.Word = TopologyWord
@@ -34,6 +34,7 @@ script_code scripts.Word = ScriptWord
 script_code scripts.Number = ScriptNumber
 script_code scripts.Name = ScriptName
 script_code (scripts.Frame cause) = text_code cause
+script_code scripts.Hex = ScriptHex
 script_code scripts.Width = ScriptWidth
 script_code scripts.Order = ScriptOrder
 script_code scripts.Close = ScriptClose

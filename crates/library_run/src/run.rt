@@ -36,6 +36,7 @@ fn script_code(cause: ScriptCause) -> Code
         ScriptCause::Number => Code::ScriptNumber,
         ScriptCause::Name => Code::ScriptName,
         ScriptCause::Frame(cause) => text_code(cause),
+        ScriptCause::Hex => Code::ScriptHex,
         ScriptCause::Width => Code::ScriptWidth,
         ScriptCause::Order => Code::ScriptOrder,
         ScriptCause::Close => Code::ScriptClose,

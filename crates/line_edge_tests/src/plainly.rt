@@ -523,7 +523,7 @@ fn seat(rt: &impl Abort, device: &Device) -> Seat {
     };
     Seat {
         plugged: device.plugged,
-        holds: [address(device, 0), address(device, 1)],
+        holds: [address(device, 0), address(device, 1), None, None],
         sends,
     }
 }

@@ -53,7 +53,7 @@ fn seat_of(word: &str) -> Option<Seat> {
     let (first, second) = held.split_once('+').unwrap_or((held, ""));
     Some(Seat {
         plugged: true,
-        holds: [address_of(first), address_of(second)],
+        holds: [address_of(first), address_of(second), None, None],
         sends,
     })
 }

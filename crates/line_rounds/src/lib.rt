@@ -25,8 +25,8 @@ pub const LONGEST_PULSED_ROUND: u64 = 458_461;
 #[derive(Debug, Default, Drop)]
 pub struct Seat {
     pub plugged: bool,
-    /// The address of each unit that has settled, 15 among them. A device of one unit has no second one.
-    pub holds: [Option<Addr>; 2],
+    /// The addresses that it holds, 15 among them: one for each unit that has settled, and up to four of a device from outside.
+    pub holds: [Option<Addr>; 4],
     pub sends: Option<Frame>,
 }
 
@@ -57,7 +57,7 @@ impl Seat {
     {
         Seat {
             plugged: self.plugged,
-            holds: [self.holds[0], self.holds[1]],
+            holds: [self.holds[0], self.holds[1], self.holds[2], self.holds[3]],
             sends: match &self.sends {
                 None => None,
                 Some(frame) => Some(frame.copy()),

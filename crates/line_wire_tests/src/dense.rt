@@ -107,7 +107,7 @@ fn seat_of(word: &str) -> Option<Seat> {
     let holds = holds.as_bytes();
     Some(Seat {
         plugged: plugged == "1",
-        holds: [held(holds, 0), held(holds, 1)],
+        holds: [held(holds, 0), held(holds, 1), None, None],
         sends: frame_of(sends.as_bytes()),
     })
 }

@@ -9,12 +9,12 @@ use Rattle.live_incoming.specs.Incoming.{IsWhole, Leads, text_of_lines, longest_
 use Rattle.room_script.specs.Topology.{topology_of, Plan}
 use Rattle.edid_core.specs.Root.{IsRoot, IsNoRoot}
 use Rattle.room_net.specs.State.{first_net}
-use Rattle.room_run.specs.declared.run.Reporting.TheVariants.{Trace}
+use Rattle.record_core.specs.declared.cell.Form.{Form}
 use Rattle.room_run.specs.Run.{IsRunText, start, start_reported}
-use Rattle.room_run.specs.Emulate.{IsTraceOf}
 use Rattle.live_session.specs.declared.live.Step.{Step}
 use Rattle.live_session.specs.Session.{Session, first_session, IsStep, IsDue}
-use Rattle.live_session.specs.Whole.{IsLine, AreLines}
+use Rattle.live_session.specs.Turns.{reporting_of}
+use Rattle.live_session.specs.Whole.{IsLine, AreLines, IsReportOf}
 use Rattle.live_dialogue.specs.declared.error.ScriptEnd.{ScriptEnd}
 use Rattle.live_dialogue.specs.declared.error.ScriptEnd.TheVariants as ends
 use Rattle.live_dialogue.specs.declared.error.SessionError.{SessionError}
@@ -136,13 +136,13 @@ IsScriptLine before after line number (Err Memory) = ⊥
 
 -- ---- the topology
 
--- a topology and its EDID are accepted
-pub record HasBegun (topology : List ℕ) (s : Session) : Type 0 where
+-- a topology and its EDID are accepted, for a session that says lines or objects
+pub record HasBegun (form : Form) (topology : List ℕ) (s : Session) : Type 0 where
   pub plan : Plan
   pub edid : Option EdidValue
   pub plan_is : topology_of topology ≡ Ok plan
   pub root : IsRoot plan.edid edid
-  pub is : s ≡ first_session edid plan.tree
+  pub is : s ≡ first_session (reporting_of form edid) plan.tree
 
 -- or refused
 abbrev pub IsTopologyFault : List ℕ → SessionError → Type 0
@@ -155,9 +155,9 @@ IsTopologyFault topology NoScriptLine = ⊥
 IsTopologyFault topology (Script line cause) = ⊥
 IsTopologyFault topology (Write count) = ⊥
 
-abbrev pub IsBegun : List ℕ → Result Session SessionError → Type 0
-IsBegun topology (Ok s) = HasBegun topology s
-IsBegun topology (Err error) = IsTopologyFault topology error
+abbrev pub IsBegun : Form → List ℕ → Result Session SessionError → Type 0
+IsBegun form topology (Ok s) = HasBegun form topology s
+IsBegun form topology (Err error) = IsTopologyFault topology error
 
 -- ---- what is put
 
@@ -169,9 +169,9 @@ IsCutShort text old new = (count : ℕ) × (count ≤ length text) × Appends ol
 abbrev pub IsCutLine : Session → List ℕ → Option (List ℕ) → Option (List ℕ) → Type 0
 IsCutLine s line old new = (step : Step) × (asked : Session) × IsStep s line step asked × (text : List ℕ) × (after : Session) × IsDue step asked text after × IsCutShort text old new
 
--- what stands before the first answer: the lines of the ports
+-- what stands before the first answer: the lines of the ports, or their objects
 abbrev pub first_reported : Session → List ℕ
-first_reported s = start_reported (Trace s.edid) s.place.net
+first_reported s = start_reported s.reporting s.place.net
 
 abbrev pub IsFirstPut : Session → Option (List ℕ) → Option (List ℕ) → Result Unit SessionError → Type 0
 IsFirstPut s old new (Ok done) = Appends old new (first_reported s)
@@ -282,55 +282,55 @@ is_write (Err Memory) = false
 -- ---- a whole session
 
 -- Before the line `script` stands a topology that is accepted, what stands first is put, and then lines are answered.
-pub record HasRun (before after old new : Option (List ℕ)) : Type 0 where
+pub record HasRun (form : Form) (before after old new : Option (List ℕ)) : Type 0 where
   pub topology : List ℕ
   pub first : Session
   pub mid : Option (List ℕ)
   pub so_far : Option (List ℕ)
   pub opened : IsOpened before mid topology
-  pub begins : HasBegun topology first
+  pub begins : HasBegun form topology first
   pub put : Appends old so_far (first_reported first)
 
 -- A session is done: its lines are answered up to `end`, and what they have reported, without the answers, is the trace of the
--- topology with what the lines of its script say. Where these have no more pulses than a script may have, it is the trace of the
--- topology with that script, in which the lines that were refused and the session's own ones are emptied.
-pub record IsDone (before after old new : Option (List ℕ)) : Type 0 where
-  pub run : HasRun before after old new
+-- topology with what the lines of its script say, or the objects of that trace. Where these have no more pulses than a script may have, it
+-- is the trace of the topology with that script, in which the lines that were refused and the session's own ones are emptied.
+pub record IsDone (form : Form) (before after old new : Option (List ℕ)) : Type 0 where
+  pub run : HasRun form before after old new
   pub over : HasEnded run.mid after run.first run.so_far new
-  pub reported : IsRunText (Trace run.begins.edid) over.end (start (first_net run.begins.plan.tree over.last.notes.pulses) over.last.notes.events) (first_reported run.first ++ over.answers.reported) over.last.place.totals
-  pub trace : length over.last.notes.pulses ≤ most_pulses → IsTraceOf run.topology (text_of_lines over.answers.kept) (first_reported run.first ++ over.answers.reported) over.last.place.totals
+  pub reported : IsRunText (reporting_of form run.begins.edid) over.end (start (first_net run.begins.plan.tree over.last.notes.pulses) over.last.notes.events) (first_reported run.first ++ over.answers.reported) over.last.place.totals
+  pub trace : length over.last.notes.pulses ≤ most_pulses → IsReportOf form run.topology (text_of_lines over.answers.kept) (first_reported run.first ++ over.answers.reported) over.last.place.totals
 
 -- what is put where a session stops
-abbrev pub IsStopped : Option (List ℕ) → Option (List ℕ) → Option (List ℕ) → Option (List ℕ) → ℕ → ScriptEnd → Type 0
-IsStopped before after old new line cause = (run : HasRun before after old new) × HasStopped run.mid after run.first run.so_far new line cause
+abbrev pub IsStopped : Form → Option (List ℕ) → Option (List ℕ) → Option (List ℕ) → Option (List ℕ) → ℕ → ScriptEnd → Type 0
+IsStopped form before after old new line cause = (run : HasRun form before after old new) × HasStopped run.mid after run.first run.so_far new line cause
 
-abbrev pub IsCut : Option (List ℕ) → Option (List ℕ) → Option (List ℕ) → Option (List ℕ) → Type 0
-IsCut before after old new =
-    ((run : HasRun before after old new) × HasCut run.mid after run.first run.so_far new)
-    ⊎ ((topology : List ℕ) × (first : Session) × (mid : Option (List ℕ)) × IsOpened before mid topology × HasBegun topology first × IsCutShort (first_reported first) old new)
+abbrev pub IsCut : Form → Option (List ℕ) → Option (List ℕ) → Option (List ℕ) → Option (List ℕ) → Type 0
+IsCut form before after old new =
+    ((run : HasRun form before after old new) × HasCut run.mid after run.first run.so_far new)
+    ⊎ ((topology : List ℕ) × (first : Session) × (mid : Option (List ℕ)) × IsOpened before mid topology × HasBegun form topology first × IsCutShort (first_reported first) old new)
 
 -- nothing is put, or what is due of the lines so far
-abbrev pub IsLeft : Option (List ℕ) → Option (List ℕ) → Option (List ℕ) → Option (List ℕ) → Type 0
-IsLeft before after old new = (new ≡ old) ⊎ ((run : HasRun before after old new) × HasGone run.mid run.first run.so_far new)
+abbrev pub IsLeft : Form → Option (List ℕ) → Option (List ℕ) → Option (List ℕ) → Option (List ℕ) → Type 0
+IsLeft form before after old new = (new ≡ old) ⊎ ((run : HasRun form before after old new) × HasGone run.mid run.first run.so_far new)
 
 -- the topology is too long, and nothing is put; or the session has as many lines as there may be
-abbrev pub IsTooLong : Option (List ℕ) → Option (List ℕ) → Option (List ℕ) → Option (List ℕ) → Type 0
-IsTooLong before after old new = (IsLongTopology before after × (new ≡ old)) ⊎ ((run : HasRun before after old new) × HasFilled run.mid after run.first run.so_far new)
+abbrev pub IsTooLong : Form → Option (List ℕ) → Option (List ℕ) → Option (List ℕ) → Option (List ℕ) → Type 0
+IsTooLong form before after old new = (IsLongTopology before after × (new ≡ old)) ⊎ ((run : HasRun form before after old new) × HasFilled run.mid after run.first run.so_far new)
 
 -- a topology is refused
 abbrev pub IsRefused : Option (List ℕ) → SessionError → Type 0
 IsRefused before error = (topology : List ℕ) × (mid : Option (List ℕ)) × IsOpened before mid topology × IsTopologyFault topology error
 
-abbrev pub IsSession : Option (List ℕ) → Option (List ℕ) → Option (List ℕ) → Option (List ℕ) → Result Unit SessionError → Type 0
-IsSession before after old new (Ok done) = IsDone before after old new
-IsSession before after old new (Err NoScriptLine) = HasNoScript before × (new ≡ old)
-IsSession before after old new (Err (Topology line cause word)) = IsRefused before (Topology line cause word) × (new ≡ old)
-IsSession before after old new (Err (Edid cause)) = IsRefused before (Edid cause) × (new ≡ old)
-IsSession before after old new (Err (Script line cause)) = IsStopped before after old new line cause
-IsSession before after old new (Err (Write count)) = IsCut before after old new
-IsSession before after old new (Err Read) = IsLeft before after old new
-IsSession before after old new (Err TooLong) = IsTooLong before after old new
-IsSession before after old new (Err Memory) = IsLeft before after old new
+abbrev pub IsSession : Form → Option (List ℕ) → Option (List ℕ) → Option (List ℕ) → Option (List ℕ) → Result Unit SessionError → Type 0
+IsSession form before after old new (Ok done) = IsDone form before after old new
+IsSession form before after old new (Err NoScriptLine) = HasNoScript before × (new ≡ old)
+IsSession form before after old new (Err (Topology line cause word)) = IsRefused before (Topology line cause word) × (new ≡ old)
+IsSession form before after old new (Err (Edid cause)) = IsRefused before (Edid cause) × (new ≡ old)
+IsSession form before after old new (Err (Script line cause)) = IsStopped form before after old new line cause
+IsSession form before after old new (Err (Write count)) = IsCut form before after old new
+IsSession form before after old new (Err Read) = IsLeft form before after old new
+IsSession form before after old new (Err TooLong) = IsTooLong form before after old new
+IsSession form before after old new (Err Memory) = IsLeft form before after old new
 
 -- A session goes on with no topology past its limits: it then stops with `TooLong`, or before that for want of memory or as a
 -- read fails.

@@ -10,6 +10,7 @@ use crate::limits::MOST_LINES;
 use crate::opening::{begin, topology_text};
 use live_incoming::IncomingFault;
 use live_session::{Live, LiveError};
+use record_core::Form;
 use std::alloc::Global;
 use std::io::Read;
 use text_core::{Buffered, Sink};
@@ -105,7 +106,7 @@ fn answer<R: Read, S: Sink, H: RefusalHearer>(
 }
 
 /// Runs a session: reads a topology and a line `script`, and answers each line after it before it reads on, up to a line
-/// `end T`. Each answer is handed on before the next line is read.
+/// `end T`. It says lines or objects. Each answer is handed on before the next line is read.
 ///
 /// # Errors
 ///
@@ -114,14 +115,15 @@ fn answer<R: Read, S: Sink, H: RefusalHearer>(
 /// write failed; no memory. What was answered before stays written.
 pub fn session<R: Read, S: Sink>(
     alloc: Global,
+    form: Form,
     input: &mut R,
     out: &mut Buffered<S>,
 ) -> Result<(), SessionError>
     ensures limits { IsInLimits (R.remaining input.old) result }
-    ensures session { (after : Option (List ℕ)) × IsSession (R.remaining input.old) after (⟦<Buffered<S> as Sink>⟧.contents out.old) (⟦<Buffered<S> as Sink>⟧.contents out.new) result }
+    ensures session { (after : Option (List ℕ)) × IsSession form (R.remaining input.old) after (⟦<Buffered<S> as Sink>⟧.contents out.old) (⟦<Buffered<S> as Sink>⟧.contents out.new) result }
     ensures handed { AreHanded ⟦<Buffered<S> as Sink>⟧.is_stuck out.old out.new result }
 {
-    session_heard(alloc, input, out, &mut SilentRefusals)
+    session_heard(alloc, form, input, out, &mut SilentRefusals)
 }
 
 /// [`session`], of which each line of the topology is heard of as it is read, and each refused line once its answer is handed on.
@@ -131,18 +133,19 @@ pub fn session<R: Read, S: Sink>(
 /// Those of [`session`].
 pub fn session_heard<R: Read, S: Sink, H: RefusalHearer>(
     alloc: Global,
+    form: Form,
     input: &mut R,
     out: &mut Buffered<S>,
     hearer: &mut H,
 ) -> Result<(), SessionError>
     ensures limits { IsInLimits (R.remaining input.old) result }
-    ensures session { (after : Option (List ℕ)) × IsSession (R.remaining input.old) after (⟦<Buffered<S> as Sink>⟧.contents out.old) (⟦<Buffered<S> as Sink>⟧.contents out.new) result }
+    ensures session { (after : Option (List ℕ)) × IsSession form (R.remaining input.old) after (⟦<Buffered<S> as Sink>⟧.contents out.old) (⟦<Buffered<S> as Sink>⟧.contents out.new) result }
     ensures handed { AreHanded ⟦<Buffered<S> as Sink>⟧.is_stuck out.old out.new result }
 {
     let mut incoming = Incoming::new(input);
     let topology = topology_text(alloc, &mut incoming, hearer)?;
     // The run is large, and `?` would move it once more.
-    let mut live = match begin(alloc, topology.as_slice()) {
+    let mut live = match begin(alloc, form, topology.as_slice()) {
         Ok(live) => live,
         Err(error) => return Err(error),
     };

@@ -11,6 +11,7 @@ use crate::limits::LONGEST_TOPOLOGY;
 use edid_core::{RootError, root_on_heap};
 use live_incoming::IncomingFault;
 use live_session::Live;
+use record_core::Form;
 use room_script::{TopologyError, parse_topology};
 use std::alloc::{AllocError, Global};
 use std::io::Read;
@@ -75,13 +76,13 @@ pub(crate) fn topology_text<R: Read, H: RefusalHearer>(
     Err(SessionError::TooLong)
 }
 
-/// The run of a topology before its first line.
+/// The run of a topology before its first line, which says lines or objects.
 ///
 /// # Errors
 ///
 /// As the topology and its EDID are refused; no memory.
-pub fn begin(alloc: Global, text: &[u8]) -> Result<Live, SessionError>
-    ensures { IsBegun text.now result }
+pub fn begin(alloc: Global, form: Form, text: &[u8]) -> Result<Live, SessionError>
+    ensures { IsBegun form text.now result }
 {
     let topology = match parse_topology(alloc, text) {
         Ok(topology) => topology,
@@ -95,7 +96,7 @@ pub fn begin(alloc: Global, text: &[u8]) -> Result<Live, SessionError>
         Err(TopologyError::Memory) => return Err(SessionError::Memory),
     };
     match root_on_heap(alloc, &topology.edid) {
-        Ok(edid) => match Live::new(alloc, topology.tree, edid) {
+        Ok(edid) => match Live::new(alloc, form, topology.tree, edid) {
             Ok(live) => Ok(live),
             Err(_) => Err(SessionError::Memory),
         },

@@ -14,7 +14,6 @@ use Rattle.line_rounds.specs.declared.Outcome.{Outcome}
 use Rattle.line_rounds.specs.declared.Seat.{Seat}
 use Rattle.line_rounds.specs.Round.{close_in, is_pulled, pulse_pulls, IsRound}
 use Rattle.line_rounds.specs.Alone.{RoundsAreLone}
-use Rattle.edid_core.specs.declared.edid.Edid.{Edid}
 use Rattle.room_script.specs.declared.script.TimedEvent.{TimedEvent}
 use Rattle.room_net.specs.Framed.{AreFramed}
 use Rattle.room_net.specs.Start.{first_onset, least_start}
@@ -23,15 +22,16 @@ use Rattle.room_net.specs.State.{NetState, next_start}
 use Rattle.room_net.specs.Step.{seats_of, IsNextRound}
 use Rattle.room_net.specs.Apply.{net_after}
 use Rattle.room_net.specs.Line.{run_wave, AreFollowing, ComesAfter, GoesFrom, RunsAreInOrder, RunsAreWaves}
-use Rattle.room_run.specs.declared.run.Reporting.TheVariants.{Trace}
+use Rattle.room_run.specs.declared.run.Reporting.{Reporting}
 use Rattle.room_run.specs.declared.run.Turn.{Turn}
 use Rattle.room_run.specs.declared.run.Turn.TheVariants.{Stop, Apply, Round}
 use Rattle.room_run.specs.Run.{Config, event_turn, first_time, is_by, round_turn, turn_at, turn_of, IsEventTurn, IsTurn, IsTurnBy}
 use Rattle.room_run.specs.RunLine.{rounds_by}
 use Rattle.room_run.specs.Certain.{ComesFrom, IsHeld, IsHeldBy, IsOverBy, LeadsBy, with_more, with_pulses}
+use Rattle.record_core.specs.declared.cell.Form.{Form}
 use Rattle.live_session.specs.declared.edges.InstantRange.{InstantRange}
 use Rattle.live_session.specs.Edges.{edges_reported, pinned, pinned_by}
-use Rattle.live_session.specs.Turns.{AreEdgesOf, LeadsWith, MayCome, certain_until}
+use Rattle.live_session.specs.Turns.{AreEdgesOf, LeadsWith, MayCome, certain_until, form_of}
 use Rattle.live_session.specs.Told.{edges_in}
 use Rattle.live_session.proofs.Below.{begun, event_keeps, is_late, later_pulses, no_turn, one_outcome, one_turn, round_begins, round_more, round_same, same_outcome, seats_fit, turns_are_certain, until_by}
 use Rattle.live_session.proofs.EdgesOf.{edges_append, wave_from, FirstFrom}
@@ -72,30 +72,30 @@ not_stop turn b e f = cc
 
 pub record IsFirst (until : ℕ) (net : NetState) (turn : Turn) (first : List Outcome) : Type 0 where
   pub over : AreOver until first
-  pub edges : (span : InstantRange) (told : List ℕ) → AreEdgesOf span None net turn told → told ≡ edges_reported span (run_wave first)
+  pub edges : (form : Form) (span : InstantRange) (told : List ℕ) → AreEdgesOf form span None net turn told → told ≡ edges_reported form span (run_wave first)
 
 -- an event is none of the rounds
-not_both : (edid : Option Edid) (until at : ℕ) (xs : List TimedEvent) (c mid there : Config) (line : List ℕ) (events : List TimedEvent) (later : List Stretch) → c.events ≡ xs → turn_at until c ≡ Apply at
-    → IsEventTurn (Trace edid) at xs c line mid → there ≡ with_more events later mid → there.events ≡ c.events ++ events → ⊥
-not_both edid until at [] c mid there line events later same turn t place left = no_event until at (next_start c.net) (ap (λ (es : List TimedEvent). turn_of until c.net (first_time es)) (sym same) ∙ turn)
-not_both edid until at (x ∷ xs) c mid there line events later same turn t place left =
+not_both : (reporting : Reporting) (until at : ℕ) (xs : List TimedEvent) (c mid there : Config) (line : List ℕ) (events : List TimedEvent) (later : List Stretch) → c.events ≡ xs → turn_at until c ≡ Apply at
+    → IsEventTurn reporting at xs c line mid → there ≡ with_more events later mid → there.events ≡ c.events ++ events → ⊥
+not_both reporting until at [] c mid there line events later same turn t place left = no_event until at (next_start c.net) (ap (λ (es : List TimedEvent). turn_of until c.net (first_time es)) (sym same) ∙ turn)
+not_both reporting until at (x ∷ xs) c mid there line events later same turn t place left =
     let rest : mid.events ≡ xs = ap (λ (d : Config). d.events) t.1 in
     let here : xs ++ events ≡ x ∷ (xs ++ events) =
     ap (λ (es : List TimedEvent). es ++ events) (sym rest) ∙ sym (ap (λ (d : Config). d.events) place) ∙ left ∙ ap (λ (es : List TimedEvent). es ++ events) same in
     let long : length (xs ++ events) ≡ suc (length (xs ++ events)) = ap length here in
     absurd (omega (arith, long))
 
-first_is : RoundsAreLone → (edid : Option Edid) (until end : ℕ) (c mid there : Config) (line text : List ℕ) (events : List TimedEvent) (later : List Stretch) (known turn : Turn) → IsRunning c → ComesFrom until events later end
-    → turn_at until c ≡ known → turn_at end (with_more events later c) ≡ turn → IsTurnBy (Trace edid) known c line mid → IsOverBy until known mid → there ≡ with_more events later mid
-    → (t : IsTurnBy (Trace edid) turn (with_more events later c) text there) → IsFirst until c.net known (rounds_by (Trace edid) turn (with_more events later c) text there t)
-first_is lone edid until end c mid there line text events later Stop turn r comes k h is over place t = absurd is
-first_is lone edid until end c mid there line text events later (Apply at) Stop r comes k h is over place t = absurd t
-first_is lone edid until end c mid there line text events later (Apply at) (Apply on) r comes k h is over place t = record { over = tt; edges = λ span told e. e }
-first_is lone edid until end c mid there line text events later (Apply at) (Round b) r comes k h is over place t = absurd (not_both edid until at c.events c mid there line events later refl k is place t.1)
-first_is lone edid until end c mid there line text events later (Round a) Stop r comes k h is over place t = absurd t
-first_is lone edid until end c mid there line text events later (Round a) (Apply on) r comes k h is over place t =
+first_is : RoundsAreLone → (reporting : Reporting) (until end : ℕ) (c mid there : Config) (line text : List ℕ) (events : List TimedEvent) (later : List Stretch) (known turn : Turn) → IsRunning c → ComesFrom until events later end
+    → turn_at until c ≡ known → turn_at end (with_more events later c) ≡ turn → IsTurnBy reporting known c line mid → IsOverBy until known mid → there ≡ with_more events later mid
+    → (t : IsTurnBy reporting turn (with_more events later c) text there) → IsFirst until c.net known (rounds_by reporting turn (with_more events later c) text there t)
+first_is lone reporting until end c mid there line text events later Stop turn r comes k h is over place t = absurd is
+first_is lone reporting until end c mid there line text events later (Apply at) Stop r comes k h is over place t = absurd t
+first_is lone reporting until end c mid there line text events later (Apply at) (Apply on) r comes k h is over place t = record { over = tt; edges = λ form span told e. e }
+first_is lone reporting until end c mid there line text events later (Apply at) (Round b) r comes k h is over place t = absurd (not_both reporting until at c.events c mid there line events later refl k is place t.1)
+first_is lone reporting until end c mid there line text events later (Round a) Stop r comes k h is over place t = absurd t
+first_is lone reporting until end c mid there line text events later (Round a) (Apply on) r comes k h is over place t =
     absurd (not_apply (turn_at end (with_more events later c)) on a h (round_same until end a c.net c.events events later k comes))
-first_is lone edid until end c mid there line text events later (Round a) (Round b) r comes k h is over place t =
+first_is lone reporting until end c mid there line text events later (Round a) (Round b) r comes k h is over place t =
     let same : b ≡ a = same_begin (turn_at end (with_more events later c)) b a h (round_same until end a c.net c.events events later k comes) in
     let close : there.net.close ≡ close_in t.0.outcome = ap (λ (n : NetState). n.close) t.0.next.after_is in
     let early : there.net.close ≡ mid.net.close = ap (λ (d : Config). d.net.close) place in
@@ -108,70 +108,70 @@ first_is lone edid until end c mid there line text events later (Round a) (Round
     same_outcome is.0.outcome t.0.outcome (one_outcome (seats_of c.net a) a (c.net.pulses ++ later) is.0.outcome t.0.outcome is.0.wave t.0.wave more next.round) in
     record {
       over = (omega (arith, close, early, over), tt);
-      edges = λ span told has. (
+      edges = λ form span told has. (
           let that : has.0 ≡ is.0.outcome = same_outcome has.0 is.0.outcome (one_outcome (seats_of c.net a) a c.net.pulses has.0 is.0.outcome has.2 is.0.wave has.3.round is.0.next.round) in
-          has.4 ∙ ap (λ (o : Outcome). edges_reported span o.wave) (that ∙ one) ∙ ap (λ (w : List Stretch). edges_reported span w) (sym (append-nil t.0.outcome.wave))
+          has.4 ∙ ap (λ (o : Outcome). edges_reported form span o.wave) (that ∙ one) ∙ ap (λ (w : List Stretch). edges_reported form span w) (sym (append-nil t.0.outcome.wave))
           );
     }
 
-pub record IsStepped (edid : Option Edid) (until end : ℕ) (c mid : Config) (events : List TimedEvent) (later : List Stretch) (os : List Outcome) (last : Config) : Type 0 where
+pub record IsStepped (reporting : Reporting) (until end : ℕ) (c mid : Config) (events : List TimedEvent) (later : List Stretch) (os : List Outcome) (last : Config) : Type 0 where
   pub turns : ℕ
   pub first : List Outcome
   pub rest : List Outcome
-  pub runs : RunsTo edid end turns (with_more events later mid) rest last
+  pub runs : RunsTo reporting end turns (with_more events later mid) rest last
   pub whole : os ≡ first ++ rest
   pub there : IsRunning (with_more events later mid)
   pub is : IsFirst until c.net (turn_at until c) first
 
-stepped : RoundsAreLone → (edid : Option Edid) (until end m : ℕ) (c mid last : Config) (line : List ℕ) (events : List TimedEvent) (later : List Stretch) (os : List Outcome) → IsRunning c → IsRunning (with_more events later c) → ComesFrom until events later end
-    → IsTurn (Trace edid) until c line mid → IsOverBy until (turn_at until c) mid → RunsTo edid end m (with_more events later c) os last → turn_at end last ≡ Stop → IsStepped edid until end c mid events later os last
-stepped lone edid until end m c mid last line events later os r all comes turn over runs stops = by m runs
+stepped : RoundsAreLone → (reporting : Reporting) (until end m : ℕ) (c mid last : Config) (line : List ℕ) (events : List TimedEvent) (later : List Stretch) (os : List Outcome) → IsRunning c → IsRunning (with_more events later c) → ComesFrom until events later end
+    → IsTurn reporting until c line mid → IsOverBy until (turn_at until c) mid → RunsTo reporting end m (with_more events later c) os last → turn_at end last ≡ Stop → IsStepped reporting until end c mid events later os last
+stepped lone reporting until end m c mid last line events later os r all comes turn over runs stops = by m runs
   where
-    single : (text : List ℕ) × IsTurn (Trace edid) end (with_more events later c) text (with_more events later mid)
+    single : (text : List ℕ) × IsTurn reporting end (with_more events later c) text (with_more events later mid)
     single =
-        let l = turns_are_certain (Trace edid) until end (suc zero) c mid (line ++ []) events later r.order r.framed r.events comes (mid, line, [], turn, over, (refl, refl), refl) in
-        (l.1, subst (λ (d : Config). IsTurn (Trace edid) end (with_more events later c) l.1 d) (sym l.4.1) l.3)
+        let l = turns_are_certain reporting until end (suc zero) c mid (line ++ []) events later r.order r.framed r.events comes (mid, line, [], turn, over, (refl, refl), refl) in
+        (l.1, subst (λ (d : Config). IsTurn reporting end (with_more events later c) l.1 d) (sym l.4.1) l.3)
 
-    by : (m : ℕ) → RunsTo edid end m (with_more events later c) os last → IsStepped edid until end c mid events later os last
-    by zero w = absurd (no_turn (Trace edid) end (with_more events later c) single.0 (with_more events later mid) (ap (turn_at end) (sym w.1) ∙ stops) single.1)
+    by : (m : ℕ) → RunsTo reporting end m (with_more events later c) os last → IsStepped reporting until end c mid events later os last
+    by zero w = absurd (no_turn reporting end (with_more events later c) single.0 (with_more events later mid) (ap (turn_at end) (sym w.1) ∙ stops) single.1)
     by (suc m) (there, text, rest, next, after, e) =
-        let one = one_turn (Trace edid) (turn_at end (with_more events later c)) (with_more events later c) text single.0 there (with_more events later mid) next single.1 in
+        let one = one_turn reporting (turn_at end (with_more events later c)) (with_more events later c) text single.0 there (with_more events later mid) next single.1 in
         record {
           turns = m;
-          first = rounds_by (Trace edid) (turn_at end (with_more events later c)) (with_more events later c) text there next;
+          first = rounds_by reporting (turn_at end (with_more events later c)) (with_more events later c) text there next;
           rest = rest;
-          runs = subst (λ (d : Config). RunsTo edid end m d rest last) one.1 after;
+          runs = subst (λ (d : Config). RunsTo reporting end m d rest last) one.1 after;
           whole = e;
-          there = subst IsRunning one.1 (running_turn edid (turn_at end (with_more events later c)) (with_more events later c) there text next all);
-          is = first_is lone edid until end c mid there line text events later (turn_at until c) (turn_at end (with_more events later c)) r comes refl refl turn over one.1 next;
+          there = subst IsRunning one.1 (running_turn reporting (turn_at end (with_more events later c)) (with_more events later c) there text next all);
+          is = first_is lone reporting until end c mid there line text events later (turn_at until c) (turn_at end (with_more events later c)) r comes refl refl turn over one.1 next;
         }
 
 -- ---- all known turns
 
 -- the rounds of a run, parted at a place
-pub record IsParted (edid : Option Edid) (until end : ℕ) (from last : Config) (os : List Outcome) : Type 0 where
+pub record IsParted (reporting : Reporting) (until end : ℕ) (from last : Config) (os : List Outcome) : Type 0 where
   pub turns : ℕ
   pub past : List Outcome
   pub rest : List Outcome
-  pub runs : RunsTo edid end turns from rest last
+  pub runs : RunsTo reporting end turns from rest last
   pub whole : os ≡ past ++ rest
   pub there : IsRunning from
   pub over : AreOver until past
 
-pub parted : RoundsAreLone → (edid : Option Edid) (until end n m : ℕ) (c d last : Config) (text : List ℕ) (events : List TimedEvent) (later : List Stretch) (os : List Outcome) → IsRunning c → IsRunning (with_more events later c) → ComesFrom until events later end
-    → LeadsBy (Trace edid) until n c text d → RunsTo edid end m (with_more events later c) os last → turn_at end last ≡ Stop → IsParted edid until end (with_more events later d) last os
-parted lone edid until end zero m c d last text events later os r all comes l runs stops = record {
+pub parted : RoundsAreLone → (reporting : Reporting) (until end n m : ℕ) (c d last : Config) (text : List ℕ) (events : List TimedEvent) (later : List Stretch) (os : List Outcome) → IsRunning c → IsRunning (with_more events later c) → ComesFrom until events later end
+    → LeadsBy reporting until n c text d → RunsTo reporting end m (with_more events later c) os last → turn_at end last ≡ Stop → IsParted reporting until end (with_more events later d) last os
+parted lone reporting until end zero m c d last text events later os r all comes l runs stops = record {
   turns = m;
   past = [];
   rest = os;
-  runs = subst (λ (x : Config). RunsTo edid end m (with_more events later x) os last) (sym l.1) runs;
+  runs = subst (λ (x : Config). RunsTo reporting end m (with_more events later x) os last) (sym l.1) runs;
   whole = refl;
   there = subst (λ (x : Config). IsRunning (with_more events later x)) (sym l.1) all;
   over = tt;
 }
-parted lone edid until end (suc n) m c d last text events later os r all comes (mid, line, others, turn, over, after, e) runs stops =
-    let one = stepped lone edid until end m c mid last line events later os r all comes turn over runs stops in
-    let go = parted lone edid until end n one.turns mid d last others events later one.rest (running_turn edid (turn_at until c) c mid line turn r) one.there comes after one.runs stops in
+parted lone reporting until end (suc n) m c d last text events later os r all comes (mid, line, others, turn, over, after, e) runs stops =
+    let one = stepped lone reporting until end m c mid last line events later os r all comes turn over runs stops in
+    let go = parted lone reporting until end n one.turns mid d last others events later one.rest (running_turn reporting (turn_at until c) c mid line turn r) one.there comes after one.runs stops in
     record {
       turns = go.turns;
       past = one.first ++ go.past;
@@ -184,33 +184,33 @@ parted lone edid until end (suc n) m c d last text events later os r all comes (
 
 -- ---- and their edges
 
-pub record IsToldOf (edid : Option Edid) (until end : ℕ) (from last : Config) (os : List Outcome) (span : InstantRange) (told : List ℕ) : Type 0 where
+pub record IsToldOf (reporting : Reporting) (until end : ℕ) (from last : Config) (os : List Outcome) (span : InstantRange) (told : List ℕ) : Type 0 where
   pub turns : ℕ
   pub past : List Outcome
   pub rest : List Outcome
-  pub runs : RunsTo edid end turns from rest last
+  pub runs : RunsTo reporting end turns from rest last
   pub whole : os ≡ past ++ rest
   pub there : IsRunning from
-  pub edges : told ≡ edges_reported span (run_wave past)
+  pub edges : told ≡ edges_reported (form_of reporting) span (run_wave past)
 
-pub waves_append : (span : InstantRange) (xs ys : List Outcome) → edges_reported span (run_wave (xs ++ ys)) ≡ edges_reported span (run_wave xs) ++ edges_reported span (run_wave ys)
-waves_append span xs ys = ap (λ w. edges_reported span w) (flat_map-append (λ (o : Outcome). o.wave) xs ys) ∙ edges_append span (run_wave xs) (run_wave ys)
+pub waves_append : (form : Form) (span : InstantRange) (xs ys : List Outcome) → edges_reported form span (run_wave (xs ++ ys)) ≡ edges_reported form span (run_wave xs) ++ edges_reported form span (run_wave ys)
+waves_append form span xs ys = ap (λ w. edges_reported form span w) (flat_map-append (λ (o : Outcome). o.wave) xs ys) ∙ edges_append form span (run_wave xs) (run_wave ys)
 
-pub told_of_turns : RoundsAreLone → (edid : Option Edid) (span : InstantRange) (until end n m : ℕ) (c d last : Config) (reported text : List ℕ) (events : List TimedEvent) (later : List Stretch) (os : List Outcome) → IsRunning c
-    → IsRunning (with_more events later c) → ComesFrom until events later end → (l : LeadsWith edid false span until n c reported text d) → RunsTo edid end m (with_more events later c) os last → turn_at end last ≡ Stop
-    → IsToldOf edid until end (with_more events later d) last os span (edges_in edid false span until n c reported text d l)
-told_of_turns lone edid span until end zero m c d last reported text events later os r all comes l runs stops = record {
+pub told_of_turns : RoundsAreLone → (reporting : Reporting) (seats : Bool) (span : InstantRange) (until end n m : ℕ) (c d last : Config) (reported text : List ℕ) (events : List TimedEvent) (later : List Stretch) (os : List Outcome) → IsRunning c
+    → IsRunning (with_more events later c) → ComesFrom until events later end → (l : LeadsWith reporting false seats span until n c reported text d) → RunsTo reporting end m (with_more events later c) os last → turn_at end last ≡ Stop
+    → IsToldOf reporting until end (with_more events later d) last os span (edges_in reporting false seats span until n c reported text d l)
+told_of_turns lone reporting seats span until end zero m c d last reported text events later os r all comes l runs stops = record {
   turns = m;
   past = [];
   rest = os;
-  runs = subst (λ (x : Config). RunsTo edid end m (with_more events later x) os last) (sym l.2) runs;
+  runs = subst (λ (x : Config). RunsTo reporting end m (with_more events later x) os last) (sym l.2) runs;
   whole = refl;
   there = subst (λ (x : Config). IsRunning (with_more events later x)) (sym l.2) all;
   edges = refl;
 }
-told_of_turns lone edid span until end (suc n) m c d last reported text events later os r all comes (mid, line, edges, others, rest, turn, over, own, after, e, f) runs stops =
-    let one = stepped lone edid until end m c mid last line events later os r all comes turn over runs stops in
-    let go = told_of_turns lone edid span until end n one.turns mid d last others rest events later one.rest (running_turn edid (turn_at until c) c mid line turn r) one.there comes after one.runs stops in
+told_of_turns lone reporting seats span until end (suc n) m c d last reported text events later os r all comes (mid, line, edges, others, rest, turn, over, own, after, e, f) runs stops =
+    let one = stepped lone reporting until end m c mid last line events later os r all comes turn over runs stops in
+    let go = told_of_turns lone reporting seats span until end n one.turns mid d last others rest events later one.rest (running_turn reporting (turn_at until c) c mid line turn r) one.there comes after one.runs stops in
     record {
       turns = go.turns;
       past = one.first ++ go.past;
@@ -218,7 +218,7 @@ told_of_turns lone edid span until end (suc n) m c d last reported text events l
       runs = go.runs;
       whole = one.whole ∙ ap (λ xs. one.first ++ xs) go.whole ∙ sym (append_assoc one.first go.past go.rest);
       there = go.there;
-      edges = ap₂ (λ x y. x ++ y) (one.is.edges span edges own) go.edges ∙ sym (waves_append span one.first go.past);
+      edges = ap₂ (λ x y. x ++ y) (one.is.edges (form_of reporting) span edges own) go.edges ∙ sym (waves_append (form_of reporting) span one.first go.past);
     }
 
 -- ---- where nothing comes before an instant
@@ -299,11 +299,11 @@ at_event end at t s e = by (is_by (max s.close t) (next_start s)) e
     by true k = early (nat_lt (max s.close t) end) k
     by false k = absurd (no_event end at (next_start s) k)
 
-begins_at : (edid : Option Edid) (turn : Turn) (b : ℕ) (c d : Config) (line : List ℕ) (t : IsTurnBy (Trace edid) turn c line d) (h : ℕ) (rest : List Outcome) → turn ≡ Round b → h ≤ b
-    → FirstFrom h (rounds_by (Trace edid) turn c line d t ++ rest)
-begins_at edid Stop b c d line t h rest e l = absurd t
-begins_at edid (Apply at) b c d line t h rest e l = cc
-begins_at edid (Round a) b c d line t h rest e l =
+begins_at : (reporting : Reporting) (turn : Turn) (b : ℕ) (c d : Config) (line : List ℕ) (t : IsTurnBy reporting turn c line d) (h : ℕ) (rest : List Outcome) → turn ≡ Round b → h ≤ b
+    → FirstFrom h (rounds_by reporting turn c line d t ++ rest)
+begins_at reporting Stop b c d line t h rest e l = absurd t
+begins_at reporting (Apply at) b c d line t h rest e l = cc
+begins_at reporting (Round a) b c d line t h rest e l =
     let same : a ≡ b = same_begin (Round a) a b refl e in
     let starts : t.0.outcome.reading.begin ≡ a = t.0.next.round.starts in
     omega (arith, same, starts, l)
@@ -316,18 +316,18 @@ pub record Laws : Type 0 where
   pub takes : RoundsTakePulses
 
 -- the line of rounds that begin at an instant or later is high before it
-from_first : Laws → (edid : Option Edid) (h end n : ℕ) (c last : Config) (os : List Outcome) → IsRunning c → RunsTo edid end n c os last → FirstFrom h os → IsWaveFrom h (run_wave os)
-from_first laws edid h end n c last os r runs first =
-    let m = moved laws.lone edid end n c last os runs r in
+from_first : Laws → (reporting : Reporting) (h end n : ℕ) (c last : Config) (os : List Outcome) → IsRunning c → RunsTo reporting end n c os last → FirstFrom h os → IsWaveFrom h (run_wave os)
+from_first laws reporting h end n c last os r runs first =
+    let m = moved laws.lone reporting end n c last os runs r in
     let wave : IsWave (run_wave os) = subst (λ (xs : List Outcome). IsWave (run_wave xs)) m.rounds (laws.waves c.net last.net m.moves r.order r.framed m.goes) in
     wave_from h os wave m.lone first
 
-quiet_until : Laws → (edid : Option Edid) (h end n : ℕ) (c last : Config) (os : List Outcome) → IsRunning c → AreLate h c.net → EventsFrom h c.net.close c.events → RunsTo edid end n c os last → IsWaveFrom h (run_wave os)
-quiet_until laws edid h end zero c last os r late events (none, same) = subst (λ (xs : List Outcome). IsWaveFrom h (run_wave xs)) (sym none) tt
-quiet_until laws edid h end (suc n) c last os r late events (mid, line, rest, turn, after, e) =
-    by (turn_at end c) refl turn e (λ here there. quiet_until laws edid h end n mid last rest (running_turn edid (turn_at end c) c mid line turn r) here there after)
+quiet_until : Laws → (reporting : Reporting) (h end n : ℕ) (c last : Config) (os : List Outcome) → IsRunning c → AreLate h c.net → EventsFrom h c.net.close c.events → RunsTo reporting end n c os last → IsWaveFrom h (run_wave os)
+quiet_until laws reporting h end zero c last os r late events (none, same) = subst (λ (xs : List Outcome). IsWaveFrom h (run_wave xs)) (sym none) tt
+quiet_until laws reporting h end (suc n) c last os r late events (mid, line, rest, turn, after, e) =
+    by (turn_at end c) refl turn e (λ here there. quiet_until laws reporting h end n mid last rest (running_turn reporting (turn_at end c) c mid line turn r) here there after)
   where
-    applied : (at : ℕ) (xs : List TimedEvent) → c.events ≡ xs → turn_of end c.net (first_time xs) ≡ Apply at → IsEventTurn (Trace edid) at xs c line mid → os ≡ rest
+    applied : (at : ℕ) (xs : List TimedEvent) → c.events ≡ xs → turn_of end c.net (first_time xs) ≡ Apply at → IsEventTurn reporting at xs c line mid → os ≡ rest
         → (AreLate h mid.net → EventsFrom h mid.net.close mid.events → IsWaveFrom h (run_wave rest)) → IsWaveFrom h (run_wave os)
     applied at [] same k t whole go = absurd (no_event end at (next_start c.net) k)
     applied at (x ∷ xs) same k t whole go =
@@ -340,14 +340,14 @@ quiet_until laws edid h end (suc n) c last os r late events (mid, line, rest, tu
         subst (λ (es : List TimedEvent). EventsFrom h mid.net.close es) (sym (ap (λ (d : Config). d.events) t.1)) (subst (λ (k : ℕ). EventsFrom h k xs) (sym close) left.1) in
         subst (λ (ys : List Outcome). IsWaveFrom h (run_wave ys)) (sym whole) (go here there)
 
-    by : (kind : Turn) → turn_at end c ≡ kind → (t : IsTurnBy (Trace edid) kind c line mid) → os ≡ rounds_by (Trace edid) kind c line mid t ++ rest
+    by : (kind : Turn) → turn_at end c ≡ kind → (t : IsTurnBy reporting kind c line mid) → os ≡ rounds_by reporting kind c line mid t ++ rest
         → (AreLate h mid.net → EventsFrom h mid.net.close mid.events → IsWaveFrom h (run_wave rest)) → IsWaveFrom h (run_wave os)
     by Stop k t whole go = absurd t
     by (Apply at) k t whole go = applied at c.events refl k t whole go
     by (Round b) k t whole go =
         let begins : next_start c.net ≡ Some b = (round_begins end c.net (first_time c.events) b k).0 in
-        let first : FirstFrom h os = subst (FirstFrom h) (sym whole) (begins_at edid (Round b) b c mid line t h rest refl (late_next h c.net late b begins)) in
-        from_first laws edid h end (suc n) c last os r (mid, line, rest, turn, after, e) first
+        let first : FirstFrom h os = subst (FirstFrom h) (sym whole) (begins_at reporting (Round b) b c mid line t h rest refl (late_next h c.net late b begins)) in
+        from_first laws reporting h end (suc n) c last os r (mid, line, rest, turn, after, e) first
 
 -- ---- a pull that begins before the end is on the line, whole
 
@@ -393,22 +393,22 @@ or_right : (a b : Bool) → b ≡ true → (a || b) ≡ true
 or_right true b e = refl
 or_right false b e = e
 
-pub pull_is_on : Laws → (edid : Option Edid) (end n : ℕ) (c last : Config) (os : List Outcome) (p : Stretch) → IsRunning c → RunsTo edid end n c os last → turn_at end last ≡ Stop → Has p c.net.pulses → p.from < end
+pub pull_is_on : Laws → (reporting : Reporting) (end n : ℕ) (c last : Config) (os : List Outcome) (p : Stretch) → IsRunning c → RunsTo reporting end n c os last → turn_at end last ≡ Stop → Has p c.net.pulses → p.from < end
     → (t : ℕ) → p.from ≤ t → t < p.to → line_of (run_wave os) t ≡ true
-pull_is_on laws edid end zero c last os p r (none, same) stops has early t a b =
+pull_is_on laws reporting end zero c last os p r (none, same) stops has early t a b =
     let from : From end (first_onset c.net.pulses) = from_right end (least_start c.net.rest c.net.devices) (first_onset c.net.pulses) (stop_start end c.net (first_time c.events) (ap (turn_at end) (sym same) ∙ stops)) in
     absurd (let x = onset_first end 0 p c.net.pulses r.order has from in omega (arith, x, early))
-pull_is_on laws edid end (suc n) c last os p r (mid, line, rest, turn, after, e) stops has early t a b =
-    by (turn_at end c) refl turn e (λ k. pull_is_on laws edid end n mid last rest p (running_turn edid (turn_at end c) c mid line turn r) after stops k early t a b)
+pull_is_on laws reporting end (suc n) c last os p r (mid, line, rest, turn, after, e) stops has early t a b =
+    by (turn_at end c) refl turn e (λ k. pull_is_on laws reporting end n mid last rest p (running_turn reporting (turn_at end c) c mid line turn r) after stops k early t a b)
   where
     low : (o : Outcome) → line_of (o.wave ++ run_wave rest) t ≡ (line_of o.wave t || line_of (run_wave rest) t)
     low o = list_any-append (λ s. covers s t) o.wave (run_wave rest)
 
-    applied : (at : ℕ) (xs : List TimedEvent) → IsEventTurn (Trace edid) at xs c line mid → Has p mid.net.pulses
+    applied : (at : ℕ) (xs : List TimedEvent) → IsEventTurn reporting at xs c line mid → Has p mid.net.pulses
     applied at [] t = subst (λ (d : Config). Has p d.net.pulses) (sym t.1) has
     applied at (x ∷ xs) t = subst (λ (ps : List Stretch). Has p ps) (sym (event_keeps at x.event c.net mid.net (ap (λ (d : Config). d.net) t.1)).pulses) has
 
-    by : (kind : Turn) → turn_at end c ≡ kind → (k : IsTurnBy (Trace edid) kind c line mid) → os ≡ rounds_by (Trace edid) kind c line mid k ++ rest → (Has p mid.net.pulses → line_of (run_wave rest) t ≡ true)
+    by : (kind : Turn) → turn_at end c ≡ kind → (k : IsTurnBy reporting kind c line mid) → os ≡ rounds_by reporting kind c line mid k ++ rest → (Has p mid.net.pulses → line_of (run_wave rest) t ≡ true)
         → line_of (run_wave os) t ≡ true
     by Stop h k whole go = absurd k
     by (Apply at) h k whole go = ap (λ (xs : List Outcome). line_of (run_wave xs) t) whole ∙ go (applied at c.events k)
@@ -426,7 +426,7 @@ pull_is_on laws edid end (suc n) c last os p r (mid, line, rest, turn, after, e)
 -- ---- the round that is on
 
 -- the first round of a run
-record IsBegun (edid : Option Edid) (end b : ℕ) (c last : Config) (os : List Outcome) : Type 0 where
+record IsBegun (reporting : Reporting) (end b : ℕ) (c last : Config) (os : List Outcome) : Type 0 where
   turns : ℕ
   mid : Config
   outcome : Outcome
@@ -434,17 +434,17 @@ record IsBegun (edid : Option Edid) (end b : ℕ) (c last : Config) (os : List O
   wave : IsWave outcome.wave
   next : IsNextRound c.net b outcome mid.net
   running : IsRunning mid
-  runs : RunsTo edid end turns mid rest last
+  runs : RunsTo reporting end turns mid rest last
   whole : os ≡ outcome ∷ rest
 
-first_round : (edid : Option Edid) (end b n : ℕ) (c last : Config) (os : List Outcome) → IsRunning c → turn_at end c ≡ Round b → RunsTo edid end n c os last → turn_at end last ≡ Stop → IsBegun edid end b c last os
-first_round edid end b zero c last os r begins runs stops = absurd (not_stop (turn_at end c) b (ap (turn_at end) (sym runs.1) ∙ stops) begins)
-first_round edid end b (suc n) c last os r begins (mid, line, rest, turn, after, e) stops = by (turn_at end c) begins turn e
+first_round : (reporting : Reporting) (end b n : ℕ) (c last : Config) (os : List Outcome) → IsRunning c → turn_at end c ≡ Round b → RunsTo reporting end n c os last → turn_at end last ≡ Stop → IsBegun reporting end b c last os
+first_round reporting end b zero c last os r begins runs stops = absurd (not_stop (turn_at end c) b (ap (turn_at end) (sym runs.1) ∙ stops) begins)
+first_round reporting end b (suc n) c last os r begins (mid, line, rest, turn, after, e) stops = by (turn_at end c) begins turn e
   where
     running : IsRunning mid
-    running = running_turn edid (turn_at end c) c mid line turn r
+    running = running_turn reporting (turn_at end c) c mid line turn r
 
-    by : (kind : Turn) → kind ≡ Round b → (t : IsTurnBy (Trace edid) kind c line mid) → os ≡ rounds_by (Trace edid) kind c line mid t ++ rest → IsBegun edid end b c last os
+    by : (kind : Turn) → kind ≡ Round b → (t : IsTurnBy reporting kind c line mid) → os ≡ rounds_by reporting kind c line mid t ++ rest → IsBegun reporting end b c last os
     by Stop k t whole = absurd t
     by (Apply at) k t whole = absurd (not_apply (Apply at) at b refl k)
     by (Round a) k t whole =
@@ -520,20 +520,20 @@ comes_after h o (p ∷ os) l c = (let x = c.0 in omega (arith, l, x))
 -- ---- what is told of the turn that is not over
 
 -- the round that is on, or none, has before an instant the line that the run has
-record IsOnLine (span : InstantRange) (pin : Option ℕ) (until : ℕ) (on : List ℕ) (rest : List Outcome) : Type 0 where
+record IsOnLine (form : Form) (span : InstantRange) (pin : Option ℕ) (until : ℕ) (on : List ℕ) (rest : List Outcome) : Type 0 where
   wave : List Stretch
   order : IsWave wave
-  on_is : on ≡ edges_reported span (pinned_by pin wave)
+  on_is : on ≡ edges_reported form span (pinned_by pin wave)
   whole : IsWave (run_wave rest)
   agree : Agree until wave (run_wave rest)
 
-on_line : Laws → (edid : Option Edid) (span : InstantRange) (pin : Option ℕ) (until end m : ℕ) (d last : Config) (on : List ℕ) (events : List TimedEvent) (later : List Stretch) (rest : List Outcome) → IsKnown d
-    → IsRunning (with_more events later d) → ComesFrom until events later end → IsHeld until d → AreEdgesOf span pin d.net (turn_at until d) on → RunsTo edid end m (with_more events later d) rest last → turn_at end last ≡ Stop
-    → IsOnLine span pin until on rest
-on_line laws edid span pin until end m d last on events later rest known there comes held own runs stops = by (turn_at until d) refl held own
+on_line : Laws → (reporting : Reporting) (span : InstantRange) (pin : Option ℕ) (until end m : ℕ) (d last : Config) (on : List ℕ) (events : List TimedEvent) (later : List Stretch) (rest : List Outcome) → IsKnown d
+    → IsRunning (with_more events later d) → ComesFrom until events later end → IsHeld until d → AreEdgesOf (form_of reporting) span pin d.net (turn_at until d) on → RunsTo reporting end m (with_more events later d) rest last → turn_at end last ≡ Stop
+    → IsOnLine (form_of reporting) span pin until on rest
+on_line laws reporting span pin until end m d last on events later rest known there comes held own runs stops = by (turn_at until d) refl held own
   where
     all : IsMoved (with_pulses later d.net) last.net rest
-    all = moved laws.lone edid end m (with_more events later d) last rest runs there
+    all = moved laws.lone reporting end m (with_more events later d) last rest runs there
 
     whole : IsWave (run_wave rest)
     whole = subst (λ (xs : List Outcome). IsWave (run_wave xs)) all.rounds (laws.waves (with_pulses later d.net) last.net all.moves there.order there.framed all.goes)
@@ -544,21 +544,21 @@ on_line laws edid span pin until end m d last on events later rest known there c
         let first : until ≤ max d.net.close e.at = stop_event until e.at d.net k in
         (first, in_order until d.net.close e.at es (subst AreRising same known.rising) first)
 
-    by : (turn : Turn) → turn_at until d ≡ turn → IsHeldBy until d.net turn → AreEdgesOf span pin d.net turn on → IsOnLine span pin until on rest
+    by : (turn : Turn) → turn_at until d ≡ turn → IsHeldBy until d.net turn → AreEdgesOf (form_of reporting) span pin d.net turn on → IsOnLine (form_of reporting) span pin until on rest
     by Stop k h e =
         let late : AreLate until d.net = late_of until d.net known.running.settled (stop_start until d.net (first_time d.events) k) in
         let left : EventsFrom until d.net.close (d.events ++ events) = events_append until d.net.close d.events events (stop_events d.events refl k) comes.scheduled in
-        let from = quiet_until laws edid until end m (with_more events later d) last rest there (late_more until later d.net late comes.begun) left runs in
+        let from = quiet_until laws reporting until end m (with_more events later d) last rest there (late_more until later d.net late comes.begun) left runs in
         record { wave = []; order = tt; on_is = e; whole = whole; agree = λ t l. sym (quiet (run_wave rest) until t from l) }
     by (Apply at) k h e = absurd h
     by (Round b) k (o, after, wave, next, late) (p, other, wave', next', e) =
         let same : turn_at end (with_more events later d) ≡ Round b = round_same until end b d.net d.events events later k comes in
-        let one = first_round edid end b m (with_more events later d) last rest there same runs stops in
+        let one = first_round reporting end b m (with_more events later d) last rest there same runs stops in
         let begins : next_start (with_pulses later d.net) ≡ Some b = (round_begins end (with_pulses later d.net) (first_time (d.events ++ events)) b same).0 in
         let close = closes_late laws.lone until b d.net after one.mid.net later o one.outcome known.running.framed there.order begins comes.begun wave one.wave next late one.next in
         let follows : AreFollowing rest = subst AreFollowing all.rounds (laws.order (with_pulses later d.net) last.net all.moves there.order there.framed all.goes) in
         let first : ComesAfter one.outcome one.rest = (subst AreFollowing one.whole follows).0 in
-        let tail : IsWaveFrom until (run_wave one.rest) = from_first laws edid until end one.turns one.mid last one.rest one.running one.runs (comes_after until one.outcome one.rest close first) in
+        let tail : IsWaveFrom until (run_wave one.rest) = from_first laws reporting until end one.turns one.mid last one.rest one.running one.runs (comes_after until one.outcome one.rest close first) in
         record {
           wave = p.wave;
           order = wave';
@@ -577,21 +577,21 @@ abbrev pub AreEarly : Option ℕ → ℕ → Type 0
 AreEarly None horizon = Unit {0}
 AreEarly (Some low) horizon = (low ≤ latest_event) × (horizon ≤ latest_event)
 
-pub told_on : Laws → (edid : Option Edid) (pin : Option ℕ) (span : InstantRange) (horizon end m : ℕ) (d last : Config) (on : List ℕ) (events : List TimedEvent) (later : List Stretch) (rest : List Outcome) → IsKnown d
-    → IsRunning (with_more events later d) → MayCome pin horizon events later end → AreEarly pin horizon → IsHeld (certain_until pin horizon) d → AreEdgesOf span pin d.net (turn_at (certain_until pin horizon) d) on
-    → span.until ≤ horizon → RunsTo edid end m (with_more events later d) rest last → turn_at end last ≡ Stop → on ≡ edges_reported span (run_wave rest)
-told_on laws edid None span horizon end m d last on events later rest known there comes early held own within runs stops =
-    let w = on_line laws edid span None horizon end m d last on events later rest known there comes held own runs stops in
-    w.on_is ∙ same_edges span horizon 0 0 w.wave (run_wave rest) within w.order w.whole w.agree
-told_on laws edid (Some low) span horizon end m d last on events [] rest known there comes early held own within runs stops = absurd comes
-told_on laws edid (Some low) span horizon end m d last on events (pull ∷ later) rest known there comes early held own within runs stops =
-    w.on_is ∙ same_edges span horizon 0 0 (pinned low w.wave) (run_wave rest) within (pinned_wave 0 low w.wave w.order (omega arith) before) w.whole agree
+pub told_on : Laws → (reporting : Reporting) (pin : Option ℕ) (span : InstantRange) (horizon end m : ℕ) (d last : Config) (on : List ℕ) (events : List TimedEvent) (later : List Stretch) (rest : List Outcome) → IsKnown d
+    → IsRunning (with_more events later d) → MayCome pin horizon events later end → AreEarly pin horizon → IsHeld (certain_until pin horizon) d → AreEdgesOf (form_of reporting) span pin d.net (turn_at (certain_until pin horizon) d) on
+    → span.until ≤ horizon → RunsTo reporting end m (with_more events later d) rest last → turn_at end last ≡ Stop → on ≡ edges_reported (form_of reporting) span (run_wave rest)
+told_on laws reporting None span horizon end m d last on events later rest known there comes early held own within runs stops =
+    let w = on_line laws reporting span None horizon end m d last on events later rest known there comes held own runs stops in
+    w.on_is ∙ same_edges (form_of reporting) span horizon 0 0 w.wave (run_wave rest) within w.order w.whole w.agree
+told_on laws reporting (Some low) span horizon end m d last on events [] rest known there comes early held own within runs stops = absurd comes
+told_on laws reporting (Some low) span horizon end m d last on events (pull ∷ later) rest known there comes early held own within runs stops =
+    w.on_is ∙ same_edges (form_of reporting) span horizon 0 0 (pinned low w.wave) (run_wave rest) within (pinned_wave 0 low w.wave w.order (omega arith) before) w.whole agree
   where
     until : ℕ
     until = certain_until (Some low) horizon
 
-    w : IsOnLine span (Some low) until on rest
-    w = on_line laws edid span (Some low) until end m d last on events (pull ∷ later) rest known there (comes_from (Some low) horizon end events (pull ∷ later) comes) held own runs stops
+    w : IsOnLine (form_of reporting) span (Some low) until on rest
+    w = on_line laws reporting span (Some low) until end m d last on events (pull ∷ later) rest known there (comes_from (Some low) horizon end events (pull ∷ later) comes) held own runs stops
 
     before : low < latest_instant
     before = (let x = early.0 in omega (arith, x))
@@ -601,6 +601,6 @@ told_on laws edid (Some low) span horizon end m d last on events (pull ∷ later
         elim (cases_lt t low) [
           | inl lt ↦ pinned_before 0 low t w.wave w.order before lt ∙ w.agree t (omega (arith, l, lt))
           | inr ge ↦ pinned_after low t w.wave ge (let x = early.1 in omega (arith, l, x))
-              ∙ sym (pull_is_on laws edid end m (with_more events (pull ∷ later) d) last rest pull there runs stops (has_later pull d.net.pulses later)
+              ∙ sym (pull_is_on laws reporting end m (with_more events (pull ∷ later) d) last rest pull there runs stops (has_later pull d.net.pulses later)
               (let x = comes.0 in let y = comes.2.over in omega (arith, x, y, ge, l)) t (let x = comes.0 in omega (arith, x, ge)) (let x = comes.1 in omega (arith, x, l)))
         ]

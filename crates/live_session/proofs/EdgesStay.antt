@@ -17,19 +17,19 @@ use Rattle.live_session.proofs.SameEdges.{Agree, same_edges}
 use Rattle.live_session.proofs.Wholly.{comes_from}
 
 pub edges_stay : EdgesStay
-edges_stay span until end begin c edges events later comes within turn (o, mid, wave, next, is) = (
+edges_stay form span until end begin c edges events later comes within turn (o, mid, wave, next, is) = (
   round_same until end begin c.net c.events events later turn comes,
   λ other after wave' next'.
-      is ∙ same_edges span until 0 0 o.wave other.wave within wave wave'
+      is ∙ same_edges form span until 0 0 o.wave other.wave within wave wave'
       (later_pulses (seats_of c.net begin) begin c.net.pulses later until (line_of o.wave) (line_of other.wave) comes.begun next.round.line next'.round.line),
 )
 
 -- while the pin is low, however long it is
 pub pinned_edges_stay : PinnedEdgesStay
-pinned_edges_stay span low horizon end begin c edges pull events later early soon within_span comes turn (o, mid, wave, next, is) = (
+pinned_edges_stay form span low horizon end begin c edges pull events later early soon within_span comes turn (o, mid, wave, next, is) = (
   round_same until end begin c.net c.events events (pull ∷ later) turn from,
   λ other after wave' next' reads.
-      is ∙ same_edges span horizon 0 0 (pinned low o.wave) other.wave within_span (pinned_wave 0 low o.wave wave (omega arith) (omega (arith, early))) wave'
+      is ∙ same_edges form span horizon 0 0 (pinned low o.wave) other.wave within_span (pinned_wave 0 low o.wave wave (omega arith) (omega (arith, early))) wave'
       (agree other.wave next'.round.line reads),
 )
   where

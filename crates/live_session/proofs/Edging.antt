@@ -7,8 +7,9 @@ use Rattle.room_net.specs.Progress.{IsProgress}
 use Rattle.room_net.specs.State.{NetState}
 use Rattle.room_net.specs.Step.{IsNextRound, after_round, seats_of}
 use Rattle.line_wave.specs.declared.Stretch.{Stretch}
+use Rattle.record_core.specs.declared.cell.Form.{Form}
 use Rattle.live_session.specs.declared.edges.InstantRange.{InstantRange}
-use Rattle.live_session.specs.Edges.{edge_line, edge_reported, edges_reported, first_edge, is_in, pinned_by}
+use Rattle.live_session.specs.Edges.{edge_reported, edge_text, edges_reported, first_edge, is_in, pinned_by}
 use Rattle.live_session.specs.declared.answer.RefusalCause.TheVariants.{Past}
 use Rattle.live_session.specs.declared.live.Step.{Step}
 use Rattle.live_session.specs.declared.live.Step.TheVariants.{Edge}
@@ -38,8 +39,8 @@ edge_in_round net mid begin from until close to pin edge same (o, after, wave, n
 not_in : (span : InstantRange) (at : ℕ) → span.until ≤ span.from → is_in span at ≡ false
 not_in span at empty = grind (arith, nat_tests)
 
-pub no_edges : (span : InstantRange) (wave : List Stretch) → span.until ≤ span.from → edges_reported span wave ≡ []
-no_edges span [] empty = refl
-no_edges span (s ∷ wave) empty =
-    let none : (at level : ℕ) → edge_reported span at level ≡ [] = λ at level. ap (λ (b : Bool). if b then edge_line at level else []) (not_in span at empty) in
-    ap₂ (λ (x y : List ℕ). x ++ y) (ap₂ (λ (x y : List ℕ). x ++ y) (none s.from 0) (none s.to 1)) (no_edges span wave empty)
+pub no_edges : (form : Form) (span : InstantRange) (wave : List Stretch) → span.until ≤ span.from → edges_reported form span wave ≡ []
+no_edges form span [] empty = refl
+no_edges form span (s ∷ wave) empty =
+    let none : (at level : ℕ) → edge_reported form span at level ≡ [] = λ at level. ap (λ (b : Bool). if b then edge_text form at level else []) (not_in span at empty) in
+    ap₂ (λ (x y : List ℕ). x ++ y) (ap₂ (λ (x y : List ℕ). x ++ y) (none s.from 0) (none s.to 1)) (no_edges form span wave empty)

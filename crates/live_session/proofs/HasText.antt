@@ -9,7 +9,6 @@ use Rattle.line_wave.specs.Pulls.{are_timely}
 use Rattle.line_rounds.specs.declared.Outcome.{Outcome}
 use Rattle.line_rounds.proofs.HasOutcome.{rounds_have_outcomes}
 use Rattle.room_event.specs.declared.event.Event.{Event}
-use Rattle.edid_core.specs.declared.edid.Edid.{Edid}
 use Rattle.room_script.specs.declared.script.TimedEvent.{TimedEvent}
 use Rattle.room_net.specs.State.{NetState, next_start}
 use Rattle.room_net.specs.Added.{between_rounds, is_late, pulse_fault, pulse_fault_by, with_pulse}
@@ -19,14 +18,16 @@ use Rattle.room_net.specs.declared.added.PulseError.{PulseError}
 use Rattle.room_net.specs.declared.added.PulseError.TheVariants.{Past, Late, NotInOrder}
 use Rattle.room_net.proofs.Progress.{going}
 use Rattle.message_text.specs.ReadingText.{is_complete}
-use Rattle.room_run.specs.declared.run.Reporting.TheVariants.{Trace}
+use Rattle.record_core.specs.declared.cell.Form.{Form}
+use Rattle.room_trace.specs.Notes.{sent_notes}
+use Rattle.room_run.specs.declared.run.Reporting.{Reporting}
 use Rattle.room_run.specs.declared.run.Turn.{Turn}
 use Rattle.room_run.specs.declared.run.Turn.TheVariants.{Stop, Apply, Round}
-use Rattle.room_run.specs.Run.{Config, turn_at, turn_of, first_time, round_turn, counted_event, counted_round, event_text, round_reported, IsEventTurn, IsTurnBy}
+use Rattle.room_run.specs.Run.{Config, turn_at, turn_of, first_time, round_turn, counted_event, counted_round, event_reported, round_reported, IsEventTurn, IsTurnBy}
 use Rattle.room_run.specs.Certain.{IsHeldBy}
 use Rattle.live_session.specs.declared.edges.InstantRange.{InstantRange}
 use Rattle.live_session.specs.Edges.{edges_reported, pinned_by}
-use Rattle.live_session.specs.Turns.{AreAhead, AreEdgesOf, GoesWith, HasEdges, IsReported}
+use Rattle.live_session.specs.Turns.{AreAhead, AreEdgesOf, AreNotesBy, AreNotesOf, GoesWith, HasEdges, IsReported, form_of, moved_by}
 use Rattle.live_session.proofs.Below.{event_keeps, round_begins, timely_tested, wave_filter}
 use Rattle.live_session.proofs.Going.{last_stop, reported_event}
 
@@ -87,23 +88,31 @@ begins_before until begin c turn = (round_begins until c.net (first_time c.event
 abbrev size : ℕ → Config → ℕ
 size until c = length c.events + (until - c.net.rest)
 
-abbrev pub HasText : Option Edid → Bool → Option ℕ → InstantRange → ℕ → Config → Type 0
-HasText edid ended pin span until c = (reported : List ℕ) × (text : List ℕ) × (place : Config) × GoesWith edid ended pin span until c reported text place
+abbrev pub HasText : Reporting → Bool → Bool → Option ℕ → InstantRange → ℕ → Config → Type 0
+HasText reporting ended seats pin span until c = (reported : List ℕ) × (text : List ℕ) × (place : Config) × GoesWith reporting ended seats pin span until c reported text place
 
 -- smaller ones have a text
-abbrev HaveTexts : Option Edid → Bool → Option ℕ → InstantRange → ℕ → Config → Type 0
-HaveTexts edid ended pin span until c = (d : Config) → size until d < size until c → AreAhead d.net → HasText edid ended pin span until d
+abbrev HaveTexts : Reporting → Bool → Bool → Option ℕ → InstantRange → ℕ → Config → Type 0
+HaveTexts reporting ended seats pin span until c = (d : Config) → size until d < size until c → AreAhead d.net → HasText reporting ended seats pin span until d
 
-in_front : (edid : Option Edid) (ended : Bool) (pin : Option ℕ) (span : InstantRange) (until : ℕ) (c d : Config) (line edges : List ℕ) (turn : Turn) → turn_at until c ≡ turn → IsTurnBy (Trace edid) turn c line d → IsReported ended until turn d
-    → AreEdgesOf span None c.net turn edges → HasText edid ended pin span until d
-    → HasText edid ended pin span until c
-in_front edid ended pin span until c d line edges turn e is over own (reported, text, place, goes) = (
+-- notes of a turn, where they are asked for
+abbrev HasNotes : Form → Config → Turn → Type 0
+HasNotes form c turn = (notes : List ℕ) × AreNotesBy form c turn notes
+
+some_notes : (seats : Bool) (form : Form) (c : Config) (turn : Turn) → HasNotes form c turn → (notes : List ℕ) × AreNotesOf seats form c turn notes
+some_notes false form c turn has = ([], refl)
+some_notes true form c turn has = has
+
+in_front : (reporting : Reporting) (ended seats : Bool) (pin : Option ℕ) (span : InstantRange) (until : ℕ) (c d : Config) (line edges : List ℕ) (turn : Turn) → turn_at until c ≡ turn → IsTurnBy reporting turn c line d → IsReported ended until turn d
+    → AreEdgesOf (form_of reporting) span None c.net turn edges → HasNotes (form_of reporting) c turn → HasText reporting ended seats pin span until d
+    → HasText reporting ended seats pin span until c
+in_front reporting ended seats pin span until c d line edges turn e is over own noted (reported, text, place, goes) = let said = some_notes seats (form_of reporting) c turn noted in (
   line ++ reported,
-  (edges ++ line) ++ text,
+  (edges ++ (line ++ said.0)) ++ text,
   place,
   record {
     turns = suc goes.turns;
-    over = (edges ++ line) ++ goes.over;
+    over = (edges ++ (line ++ said.0)) ++ goes.over;
     on = goes.on;
     leads = (
       d,
@@ -111,16 +120,16 @@ in_front edid ended pin span until c d line edges turn e is over own (reported, 
       edges,
       reported,
       goes.over,
-      subst (λ t. IsTurnBy (Trace edid) t c line d) (sym e) is,
+      subst (λ t. IsTurnBy reporting t c line d) (sym e) is,
       subst (λ t. IsReported ended until t d) (sym e) over,
-      subst (λ t. AreEdgesOf span None c.net t edges) (sym e) own,
+      subst (λ t. AreEdgesOf (form_of reporting) span None c.net t edges) (sym e) own,
       goes.leads,
       refl,
-      refl,
+      record { notes = said.0; are = subst (λ t. AreNotesOf seats (form_of reporting) c t said.0) (sym e) said.1; is = refl },
     );
     last = goes.last;
     on_is = goes.on_is;
-    text_is = ap (λ t. (edges ++ line) ++ t) goes.text_is ∙ sym (append_assoc (edges ++ line) goes.over goes.on);
+    text_is = ap (λ t. (edges ++ (line ++ said.0)) ++ t) goes.text_is ∙ sym (append_assoc (edges ++ (line ++ said.0)) goes.over goes.on);
   },
 )
 
@@ -132,65 +141,65 @@ no_event end at (Some begin) e = by_test (nat_lt begin end) e
     by_test true k = cc
     by_test false k = cc
 
-event_step : (edid : Option Edid) (ended : Bool) (pin : Option ℕ) (span : InstantRange) (until at : ℕ) (c : Config) (events : List TimedEvent) → c.events ≡ events → turn_at until c ≡ Apply at → AreAhead c.net → HaveTexts edid ended pin span until c
-    → HasText edid ended pin span until c
-event_step edid ended pin span until at c [] same e ahead go = absurd (no_event until at (next_start c.net) (sym (ap (λ (xs : List TimedEvent). turn_of until c.net (first_time xs)) same) ∙ e))
-event_step edid ended pin span until at c (x ∷ xs) same e ahead go =
+event_step : (reporting : Reporting) (ended seats : Bool) (pin : Option ℕ) (span : InstantRange) (until at : ℕ) (c : Config) (events : List TimedEvent) → c.events ≡ events → turn_at until c ≡ Apply at → AreAhead c.net → HaveTexts reporting ended seats pin span until c
+    → HasText reporting ended seats pin span until c
+event_step reporting ended seats pin span until at c [] same e ahead go = absurd (no_event until at (next_start c.net) (sym (ap (λ (xs : List TimedEvent). turn_of until c.net (first_time xs)) same) ∙ e))
+event_step reporting ended seats pin span until at c (x ∷ xs) same e ahead go =
     let d : Config = record { net = net_after at x.event c.net; events = xs; totals = counted_event (event_fault c.net x.event) c.totals } in
-    let line = event_text edid at x c.net in
+    let line = event_reported reporting at x c.net in
     let kept = event_keeps at x.event c.net (net_after at x.event c.net) refl in
-    let turn : IsTurnBy (Trace edid) (Apply at) c line d = subst (λ (es : List TimedEvent). IsEventTurn (Trace edid) at es c line d) (sym same) (refl, refl) in
+    let turn : IsTurnBy reporting (Apply at) c line d = subst (λ (es : List TimedEvent). IsEventTurn reporting at es c line d) (sym same) (refl, refl) in
     let count : length c.events ≡ suc (length xs) = ap length same in
-    in_front edid ended pin span until c d line [] (Apply at) e turn (reported_event ended until at d) refl (go d (omega (arith, count, kept.rest)) (ahead_event at x.event c.net (net_after at x.event c.net) refl ahead))
+    in_front reporting ended seats pin span until c d line [] (Apply at) e turn (reported_event ended until at d) refl (moved_by (form_of reporting) at c.events c.net, refl) (go d (omega (arith, count, kept.rest)) (ahead_event at x.event c.net (net_after at x.event c.net) refl ahead))
 
-round_step : (edid : Option Edid) (ended : Bool) (pin : Option ℕ) (span : InstantRange) (until begin : ℕ) (c : Config) → turn_at until c ≡ Round begin → AreAhead c.net → HaveTexts edid ended pin span until c → HasText edid ended pin span until c
-round_step edid ended pin span until begin c e ahead go =
+round_step : (reporting : Reporting) (ended seats : Bool) (pin : Option ℕ) (span : InstantRange) (until begin : ℕ) (c : Config) → turn_at until c ≡ Round begin → AreAhead c.net → HaveTexts reporting ended seats pin span until c → HasText reporting ended seats pin span until c
+round_step reporting ended seats pin span until begin c e ahead go =
     let begins = round_begins until c.net (first_time c.events) begin e in
     let has = rounds_have_outcomes (seats_of c.net begin) begin c.net.pulses ahead.order in
     let o : Outcome = has.0 in
     let net = after_round c.net begin o in
     let next : IsNextRound c.net begin o net = record { round = has.2; after_is = refl } in
     let d : Config = record { net = net; events = c.events; totals = counted_round (is_complete o.reading.ending) c.totals } in
-    let line = round_reported (Trace edid) net.devices o in
-    let turn : IsTurnBy (Trace edid) (Round begin) c line d = (record { outcome = o; wave = has.1; next = next; reported = refl; totals = refl }, refl) in
+    let line = round_reported reporting net.devices o in
+    let turn : IsTurnBy reporting (Round begin) c line d = (record { outcome = o; wave = has.1; next = next; reported = refl; totals = refl }, refl) in
     let p = going c.net begin o ahead.order ahead.later begins.0 has.1 has.2 in
     let rest = go d (omega (arith, begins.1, p.later, p.low)) (ahead_round begin c.net net o refl ahead) in
-    by_end ended o has.1 net next d turn rest (o, net, has.1, next, refl)
+    by_end ended o has.1 net next d turn rest (o, net, has.1, next, refl) (sent_notes (form_of reporting) o 0 c.net.devices, (o, net, has.1, next, refl))
   where
-    by_end : (b : Bool) (o : Outcome) → IsWave o.wave → (net : NetState) → IsNextRound c.net begin o net → (d : Config) → IsTurnBy (Trace edid) (Round begin) c (round_reported (Trace edid) net.devices o) d → HasText edid b pin span until d
-        → HasEdges span None begin c.net (edges_reported span o.wave) → HasText edid b pin span until c
-    by_end true o wave net next d turn rest has = in_front edid true pin span until c d (round_reported (Trace edid) net.devices o) (edges_reported span o.wave) (Round begin) e turn tt has rest
-    by_end false o wave net next d turn rest has =
+    by_end : (b : Bool) (o : Outcome) → IsWave o.wave → (net : NetState) → IsNextRound c.net begin o net → (d : Config) → IsTurnBy reporting (Round begin) c (round_reported reporting net.devices o) d → HasText reporting b seats pin span until d
+        → HasEdges (form_of reporting) span None begin c.net (edges_reported (form_of reporting) span o.wave) → HasNotes (form_of reporting) c (Round begin) → HasText reporting b seats pin span until c
+    by_end true o wave net next d turn rest has noted = in_front reporting true seats pin span until c d (round_reported reporting net.devices o) (edges_reported (form_of reporting) span o.wave) (Round begin) e turn tt has noted rest
+    by_end false o wave net next d turn rest has noted =
         elim (cases_lt d.net.close until) [
-          | inl lt ↦ in_front edid false pin span until c d (round_reported (Trace edid) net.devices o) (edges_reported span o.wave) (Round begin) e turn lt has rest
+          | inl lt ↦ in_front reporting false seats pin span until c d (round_reported reporting net.devices o) (edges_reported (form_of reporting) span o.wave) (Round begin) e turn lt has noted rest
           | inr ge ↦ (
             [],
-            edges_reported span (pinned_by pin o.wave),
+            edges_reported (form_of reporting) span (pinned_by pin o.wave),
             c,
             record {
               turns = zero;
               over = [];
-              on = edges_reported span (pinned_by pin o.wave);
+              on = edges_reported (form_of reporting) span (pinned_by pin o.wave);
               leads = (refl, refl, refl);
               last = subst (IsHeldBy until c.net) (sym e) (turn.0.outcome, d.net, turn.0.wave, turn.0.next, ge);
-              on_is = subst (λ t. AreEdgesOf span pin c.net t (edges_reported span (pinned_by pin o.wave))) (sym e) (o, net, wave, next, refl);
+              on_is = subst (λ t. AreEdgesOf (form_of reporting) span pin c.net t (edges_reported (form_of reporting) span (pinned_by pin o.wave))) (sym e) (o, net, wave, next, refl);
               text_is = refl;
             },
           )
         ]
 
-some_step : (edid : Option Edid) (ended : Bool) (pin : Option ℕ) (span : InstantRange) (until : ℕ) (c : Config) (turn : Turn) → turn_at until c ≡ turn → AreAhead c.net → HaveTexts edid ended pin span until c → HasText edid ended pin span until c
-some_step edid ended pin span until c Stop e ahead go =
-    let on : List ℕ = edges_reported span (pinned_by pin []) in
-    ([], on, c, record { turns = zero; over = []; on = on; leads = (refl, refl, refl); last = last_stop ended until c.net c.events c.totals e; on_is = subst (λ t. AreEdgesOf span pin c.net t on) (sym e) refl; text_is = refl })
-some_step edid ended pin span until c (Apply at) e ahead go = event_step edid ended pin span until at c c.events refl e ahead go
-some_step edid ended pin span until c (Round begin) e ahead go = round_step edid ended pin span until begin c e ahead go
+some_step : (reporting : Reporting) (ended seats : Bool) (pin : Option ℕ) (span : InstantRange) (until : ℕ) (c : Config) (turn : Turn) → turn_at until c ≡ turn → AreAhead c.net → HaveTexts reporting ended seats pin span until c → HasText reporting ended seats pin span until c
+some_step reporting ended seats pin span until c Stop e ahead go =
+    let on : List ℕ = edges_reported (form_of reporting) span (pinned_by pin []) in
+    ([], on, c, record { turns = zero; over = []; on = on; leads = (refl, refl, refl); last = last_stop ended until c.net c.events c.totals e; on_is = subst (λ t. AreEdgesOf (form_of reporting) span pin c.net t on) (sym e) refl; text_is = refl })
+some_step reporting ended seats pin span until c (Apply at) e ahead go = event_step reporting ended seats pin span until at c c.events refl e ahead go
+some_step reporting ended seats pin span until c (Round begin) e ahead go = round_step reporting ended seats pin span until begin c e ahead go
 
 -- ---- all turns
 
-has_some : (edid : Option Edid) (ended : Bool) (pin : Option ℕ) (span : InstantRange) (until n : ℕ) (c : Config) → size until c ≤ n → AreAhead c.net → HasText edid ended pin span until c
-has_some edid ended pin span until zero c few ahead = some_step edid ended pin span until c (turn_at until c) refl ahead (λ d l a. absurd (omega (arith, l, few)))
-has_some edid ended pin span until (suc n) c few ahead = some_step edid ended pin span until c (turn_at until c) refl ahead (λ d l a. has_some edid ended pin span until n d (omega (arith, l, few)) a)
+has_some : (reporting : Reporting) (ended seats : Bool) (pin : Option ℕ) (span : InstantRange) (until n : ℕ) (c : Config) → size until c ≤ n → AreAhead c.net → HasText reporting ended seats pin span until c
+has_some reporting ended seats pin span until zero c few ahead = some_step reporting ended seats pin span until c (turn_at until c) refl ahead (λ d l a. absurd (omega (arith, l, few)))
+has_some reporting ended seats pin span until (suc n) c few ahead = some_step reporting ended seats pin span until c (turn_at until c) refl ahead (λ d l a. has_some reporting ended seats pin span until n d (omega (arith, l, few)) a)
 
-pub has_text : (edid : Option Edid) (ended : Bool) (pin : Option ℕ) (span : InstantRange) (until : ℕ) (c : Config) → AreAhead c.net → HasText edid ended pin span until c
-has_text edid ended pin span until c ahead = has_some edid ended pin span until (size until c) c (omega arith) ahead
+pub has_text : (reporting : Reporting) (ended seats : Bool) (pin : Option ℕ) (span : InstantRange) (until : ℕ) (c : Config) → AreAhead c.net → HasText reporting ended seats pin span until c
+has_text reporting ended seats pin span until c ahead = has_some reporting ended seats pin span until (size until c) c (omega arith) ahead

@@ -1,15 +1,25 @@
 -- The script of a session is read as its lines were.
-use Rattle.std.proofs.Common.{◌≡◌, ◌≢◌, ℕ, ◌+◌, ◌≤◌, min, Bool, true, false, nat_lt, if◌then◌else◌, List, [], ◌∷◌, length, length-append, Option, Some, None, Result, Ok, Err, All, refl, sym, ap, subst, ◌∙◌, arith}
+use Rattle.std.proofs.Common.{◌≡◌, ◌≢◌, ℕ, ◌+◌, ◌≤◌, min, Bool, true, false, nat_lt, if◌then◌else◌, List, [], ◌∷◌, ◌++◌, length, length-append, Option, Some, None, Result, Ok, Err, All, refl, sym, ap, subst, ◌∙◌, arith}
+use Rattle.live_session.specs.Session.{IsWaitStep, IsWaitStepBy}
 use Rattle.std.proofs.lemmas.List.Elements.{All-cons, All-head, All-nil, All-tail}
 use Rattle.edid_tree.specs.Node.{Node}
-use Rattle.live_incoming.specs.Incoming.{IsWhole}
+use Rattle.live_incoming.specs.Incoming.{IsWhole, text_of_lines}
 use Rattle.live_incoming.proofs.Coming.{lines_again}
 use Rattle.room_script.proofs.Adding.{read_again}
 use Rattle.room_script.specs.Script.{Course, Notes, IsLineRead, AreLinesRead, course_at_end, no_notes}
 use Rattle.text_core.specs.declared.at.At.{At}
 use Rattle.room_script.specs.declared.script.ScriptCause.{ScriptCause}
 use Rattle.text_core.specs.declared.at.AtWord.{AtWord}
-use Rattle.room_run.specs.Run.{Config}
+use Rattle.record_core.specs.declared.cell.Form.{Form}
+use Rattle.record_core.specs.declared.cell.Form.TheVariants.{Text, Json}
+use Rattle.edid_core.specs.declared.edid.Edid.{Edid}
+use Rattle.edid_core.specs.Root.{IsRoot}
+use Rattle.room_net.specs.State.{first_net}
+use Rattle.room_script.specs.Topology.{Plan}
+use Rattle.room_run.specs.declared.run.Reporting.TheVariants.{Objects, Trace}
+use Rattle.room_run.specs.Causal.{before_reported}
+use Rattle.room_run.specs.Emulate.{IsAccepted}
+use Rattle.room_run.specs.Run.{Config, IsRunText, start}
 use Rattle.live_session.specs.declared.answer.RefusalCause.TheVariants.{Past}
 use Rattle.live_session.specs.declared.command.SessionCommand.{SessionCommand}
 use Rattle.live_session.specs.declared.command.SessionCommand.TheVariants as commands
@@ -17,10 +27,11 @@ use Rattle.live_session.specs.declared.live.Step.{Step}
 use Rattle.live_session.specs.declared.live.Step.TheVariants.{Refuse, Idle, Show, Go, Edge, Finish}
 use Rattle.live_session.specs.Command.{command_of, pin_time}
 use Rattle.live_session.specs.Session.{Session, first_session, refuse, with_line_counted, standing, with_standing, standing_with, step_noted, step_by, is_late, after_to, after_wait, IsEdgeStep, IsEdgeStepBy, IsStepBy, IsDue}
-use Rattle.live_session.specs.Whole.{kept_line, IsLine, AreLines, SessionsReportTracesOf}
+use Rattle.live_session.specs.Turns.{reporting_of}
+use Rattle.live_session.specs.Whole.{kept_line, IsLine, AreLines, IsReportOf, SessionsReportTracesOf}
 use Rattle.live_session.proofs.Extends.{line_extends}
 use Rattle.live_session.proofs.Noting.{taken}
-use Rattle.live_session.proofs.Wholly.{sessions_report_traces}
+use Rattle.live_session.proofs.Wholly.{sessions_report_traces, starts_same}
 use Rattle.line_wave.specs.Bounds.{most_pulses}
 
 -- ---- what a line leaves
@@ -58,6 +69,14 @@ to_stays s (Some time) = by_test (nat_lt time s.horizon)
     by_test : (b : Bool) → Stays s (if b then s else record s { horizon = time })
     by_test true = all_stays s
     by_test false = record { tree = refl; lines = refl; notes = refl }
+
+wait_until_stays : (s : Session) (time : Option ℕ) (step : Step) (t : Session) → IsWaitStep s time step t → Stays s t
+wait_until_stays s None step t (asks, stands) = same_stays s t stands
+wait_until_stays s (Some until) step t is = by_test (nat_lt until s.horizon) is
+  where
+    by_test : (b : Bool) → IsWaitStepBy b s until step t → Stays s t
+    by_test true (asks, stands) = same_stays s t stands
+    by_test false (asks, soon, is, stands) = subst (λ (t : Session). Stays s t) (sym stands) (record { tree = refl; lines = refl; notes = refl })
 
 edge_stays : (s : Session) (time : Option ℕ) (step : Step) (t : Session) → IsEdgeStep s time step t → Stays s t
 edge_stays s None step t (asks, stands) = same_stays s t stands
@@ -106,10 +125,12 @@ noted_reads s line (Ok new) t is stands = taken_reads s line new (is_late (stand
 step_reads : (s : Session) (command : SessionCommand) (line : List ℕ) (step : Step) (t : Session) → IsStepBy s command line step t → Reads s (kept_line command step line) t
 step_reads s commands.Script line step t (read, is, asks, stands) = subst (λ (step : Step). Reads s (kept_line commands.Script step line) t) (sym asks) (noted_reads s line read t is stands)
 step_reads s commands.Wait line step t (soon, is, asks, stands) = empty_reads s t (subst (λ (t : Session). Stays s t) (sym stands) (wait_stays s soon))
+step_reads s (commands.WaitUntil time) line step t is = empty_reads s t (wait_until_stays s time step t is)
 step_reads s (commands.RunTo time) line step t (asks, stands) = empty_reads s t (subst (λ (t : Session). Stays s t) (sym stands) (to_stays s time))
 step_reads s (commands.Show device) line step t (asks, stands) = empty_reads s t (same_stays s t stands)
 step_reads s (commands.Edge time) line step t is = empty_reads s t (edge_stays s time step t is)
 step_reads s (commands.Edges edges) line step t (asks, stands) = empty_reads s t (subst (λ (t : Session). Stays s t) (sym stands) (record { tree = refl; lines = refl; notes = refl }))
+step_reads s (commands.Seats seats) line step t (asks, stands) = empty_reads s t (subst (λ (t : Session). Stays s t) (sym stands) (record { tree = refl; lines = refl; notes = refl }))
 
 -- ---- all lines
 
@@ -175,10 +196,12 @@ kept_whole Finish line whole = whole
 line_whole : (command : SessionCommand) (step : Step) (line : List ℕ) → IsWhole line → IsWhole (kept_line command step line)
 line_whole commands.Script step line whole = kept_whole step line whole
 line_whole commands.Wait step line whole = All-nil (λ byte. byte ≢ 10)
+line_whole (commands.WaitUntil time) step line whole = All-nil (λ byte. byte ≢ 10)
 line_whole (commands.RunTo time) step line whole = All-nil (λ byte. byte ≢ 10)
 line_whole (commands.Show device) step line whole = All-nil (λ byte. byte ≢ 10)
 line_whole (commands.Edge time) step line whole = All-nil (λ byte. byte ≢ 10)
 line_whole (commands.Edges edges) step line whole = All-nil (λ byte. byte ≢ 10)
+line_whole (commands.Seats seats) step line whole = All-nil (λ byte. byte ≢ 10)
 
 all_whole : (lines kept : List (List ℕ)) (s t : Session) (reported text : List ℕ) → AreLines lines s kept reported text t → All IsWhole lines → All IsWhole kept
 all_whole [] kept s t reported text (nothing, none, empty, same) whole = subst (λ (kept : List (List ℕ)). All IsWhole kept) (sym nothing) (All-nil IsWhole)
@@ -187,19 +210,47 @@ all_whole (line ∷ lines) kept s t reported text (mid, own, others, first, seco
     let there = all_whole lines others mid t more rest after (All-tail IsWhole line lines whole) in
     subst (λ (kept : List (List ℕ)). All IsWhole kept) (sym kept_is) (All-cons IsWhole own others here there)
 
+-- the script that was taken, and that a trace, or its objects, are of it
+record Scripted (topology : List ℕ) (plan : Plan) (edid : Option Edid) (kept : List (List ℕ)) (t : Session) (end : ℕ) : Type 0 where
+  course : Course
+  course_is : course ≡ record { events = t.notes.events; pulses = t.notes.pulses; end = end }
+  accepted : IsAccepted topology (text_of_lines kept) plan course
+  root : IsRoot plan.edid edid
+
+report_of : (form : Form) (topology : List ℕ) (plan : Plan) (edid : Option Edid) (kept : List (List ℕ)) (text : List ℕ) (t : Session) (end : ℕ) → Scripted topology plan edid kept t end
+    → IsRunText (reporting_of form edid) end (start (first_net plan.tree t.notes.pulses) t.notes.events) text t.place.totals → IsReportOf form topology (text_of_lines kept) text t.place.totals
+report_of Text topology plan edid kept text t end k run = record {
+  plan = plan;
+  course = k.course;
+  edid = edid;
+  accepted = k.accepted;
+  root = k.root;
+  trace = subst (λ (c : Course). IsRunText (Trace edid) c.end (start (first_net plan.tree c.pulses) c.events) text t.place.totals) (sym k.course_is) run;
+}
+report_of Json topology plan edid kept text t end k run = record {
+  plan = plan;
+  course = k.course;
+  edid = edid;
+  accepted = k.accepted;
+  root = k.root;
+  objects = subst (λ (c : Course). IsRunText (Objects edid None) c.end (start (first_net plan.tree c.pulses) c.events) text t.place.totals) (sym k.course_is) run;
+}
+
 pub sessions_report_traces_of : SessionsReportTracesOf
-sessions_report_traces_of topology plan edid lines kept reported text t end plan_is root whole few sparse l over =
+sessions_report_traces_of topology plan form edid lines kept reported text t end plan_is root whole few sparse l over =
+    let reporting = reporting_of form edid in
     let course : Course = record { events = t.notes.events; pulses = t.notes.pulses; end = end } in
     let last : (m : ℕ) → Ok course ≡ course_at_end t.notes m t.notes.end = λ m. sym (ap (course_at_end t.notes m) over) in
-    let read = lines_read plan.tree lines kept 0 (first_session edid plan.tree) t reported text (Ok course) l refl refl (omega (arith, few)) sparse last in
-    record {
-      plan = plan;
+    let read = lines_read plan.tree lines kept 0 (first_session reporting plan.tree) t reported text (Ok course) l refl refl (omega (arith, few)) sparse last in
+    let taken : Scripted topology plan edid kept t end = record {
       course = course;
-      edid = edid;
+      course_is = refl;
       accepted = record {
         plan_is = plan_is;
-        course_is = subst (λ (kept : List (List ℕ)). AreLinesRead plan.tree kept 1 no_notes (Ok course)) (sym (lines_again kept (all_whole lines kept (first_session edid plan.tree) t reported text l whole))) read;
+        course_is = subst (λ (kept : List (List ℕ)). AreLinesRead plan.tree kept 1 no_notes (Ok course)) (sym (lines_again kept (all_whole lines kept (first_session reporting plan.tree) t reported text l whole))) read;
       };
       root = root;
-      trace = sessions_report_traces edid plan.tree lines kept reported text t end l over;
-    }
+    } in
+    let run = sessions_report_traces reporting plan.tree lines kept reported text t end l over in
+    report_of form topology plan edid kept (before_reported reporting plan.tree [] reported) t end taken
+    (subst (λ (first : List ℕ). IsRunText reporting end (start (first_net plan.tree t.notes.pulses) t.notes.events) (first ++ reported) t.place.totals) (starts_same reporting plan.tree t.notes.pulses) run)

@@ -27,6 +27,7 @@ use Rattle.device_features.specs.Effect.{Effect}
 use Rattle.device_features.specs.Effects.{effect_of, refuses, heard_of}
 use Rattle.device_features.specs.Keys.{pressing, releasing}
 use Rattle.device_features.specs.Kinds.{addresses, is_nowhere, is_outside, is_switch, second_addresses, type_of}
+use Rattle.device_core.specs.declared.device.Ticket.{Ticket}
 use Rattle.device_core.specs.declared.device.Queued.{Queued}
 use Rattle.device_core.specs.declared.device.SubmitError.{SubmitError}
 use Rattle.line_frames.specs.declared.free_time.FreeTime.TheVariants.{Retry}
@@ -40,7 +41,7 @@ use Rattle.device_core.specs.Say.{after_effect, say, say_all}
 use Rattle.device_core.specs.Effects.{after_frame, by_decoded, is_for}
 use Rattle.device_core.specs.Keys.{after_key, key_fault, keyed_by, own_doing}
 use Rattle.device_core.specs.Outside.{act_fault, acted_by, after_act}
-use Rattle.device_core.specs.Place.{after_failure, after_front, after_joining, after_sending, after_submission, class_of_poll, frame_sent, fresh, front_is_poll, is_allocating, is_off, is_on_wire, place_after_fate, polled_at, ready_by, ready_of, reported_by, reported_from, sent_by, start_place, submit_fault, submitted_by, tries, unregistered, with_reports}
+use Rattle.device_core.specs.Place.{after_failure, after_front, after_joining, after_sending, after_submission, class_of_poll, frame_sent, fresh, front_is_counted, front_is_poll, most_again, is_allocating, is_off, is_on_wire, place_after_fate, polled_at, ready_by, ready_of, reported_by, reported_from, sent_by, start_place, submit_fault, submitted_by, tries, unregistered, with_reports}
 use Rattle.room_event.specs.declared.event.Event.{Event}
 use Rattle.room_event.specs.declared.event.Event.TheVariants.{Plug, Unplug, Key as Press, Send, SendNamed, Outside}
 use Rattle.room_event.specs.declared.event.EventError.{EventError}
@@ -158,8 +159,8 @@ reports_stay h at P k d l p = units_stay h at P k (addresses_held d.place) d l p
 queue_settles : (h : ℕ) → Stays h Settles
 queue_settles h = record {
   queued = λ at from to bytes d l p.
-      two Settles (not (speaks d) || holds d.place to) d (if nat_lt (length d.queue) 16 then record d { queue = d.queue ++ record { frame = frame_of from to bytes; ready = at } ∷ [] } else record d { dropped = one_more d.dropped }) p
-      (two Settles (nat_lt (length d.queue) 16) (record d { queue = d.queue ++ record { frame = frame_of from to bytes; ready = at } ∷ [] }) (record d { dropped = one_more d.dropped }) p p);
+      two Settles (not (speaks d) || holds d.place to) d (if nat_lt (length d.queue) 16 then record d { queue = d.queue ++ record { frame = frame_of from to bytes; ready = at; ticket = None } ∷ [] } else record d { dropped = one_more d.dropped }) p
+      (two Settles (nat_lt (length d.queue) 16) (record d { queue = d.queue ++ record { frame = frame_of from to bytes; ready = at; ticket = None } ∷ [] }) (record d { dropped = one_more d.dropped }) p p);
   recorded = λ r d p. p;
 }
 
@@ -195,7 +196,7 @@ recorded h rest r d f = by (is_on_wire d) (ready_of d) f
 late_stays : (h rest : ℕ) → Stays h (IsLate h rest)
 late_stays h rest = record {
   queued = λ at from to bytes d l p. (
-      let q : Queued = record { frame = frame_of from to bytes; ready = at } in
+      let q : Queued = record { frame = frame_of from to bytes; ready = at; ticket = None } in
       two (IsLate h rest) (not (speaks d) || holds d.place to) d (if nat_lt (length d.queue) 16 then record d { queue = d.queue ++ q ∷ [] } else record d { dropped = one_more d.dropped }) p
       (two (IsLate h rest) (nat_lt (length d.queue) 16) (record d { queue = d.queue ++ q ∷ [] }) (record d { dropped = one_more d.dropped })
       (record { start = appended h rest d q l p.start; settles = p.settles }) (record { start = dropped h rest (one_more d.dropped) d p.start; settles = p.settles }))
@@ -203,9 +204,9 @@ late_stays h rest = record {
   recorded = λ r d p. record { start = recorded h rest r d p.start; settles = p.settles };
 }
 
-late_submitted : (h rest at : ℕ) (frame : List ℕ) (d : State) (fault : Option SubmitError) → h ≤ at → IsLate h rest d → IsLate h rest (submitted_by d frame at fault)
-late_submitted h rest at frame d None l p = record { start = appended h rest d (record { frame = frame; ready = at }) l p.start; settles = p.settles }
-late_submitted h rest at frame d (Some fault) l p = p
+late_submitted : (h rest at : ℕ) (frame : List ℕ) (ticket : Ticket) (d : State) (fault : Option SubmitError) → h ≤ at → IsLate h rest d → IsLate h rest (submitted_by d frame ticket at fault)
+late_submitted h rest at frame ticket d None l p = record { start = appended h rest d (record { frame = frame; ready = at; ticket = Some ticket }) l p.start; settles = p.settles }
+late_submitted h rest at frame ticket d (Some fault) l p = p
 
 late_acted : (h rest : ℕ) (d : State) (act : Act) → IsLate h rest d → IsLate h rest (after_act d act)
 late_acted h rest d act p = by (is_off d.place) (is_outside d.kind) act refl refl
@@ -214,7 +215,7 @@ late_acted h rest d act p = by (is_off d.place) (is_outside d.kind) act refl ref
         → IsLate h rest (acted_by d (if off then Some OffWire else (if outside then None else Some NotForKind)) act)
     by true outside act e f = p
     by false false act e f = p
-    by false true (Hold first second) e f =
+    by false true (Hold first second more) e f =
         let none : polled_at d.place ≡ None = p.settles f in
         let on : is_on_wire d ≡ true = ap not e in
         let before : From h (start_by rest d true (ready_by None d.poll_ready d.queue)) =
@@ -223,7 +224,7 @@ late_acted h rest d act p = by (is_off d.place) (is_outside d.kind) act refl ref
         record { start = held none d.queue before; settles = λ x. refl }
       where
         now : State
-        now = (acted_by d None (Hold first second))
+        now = (acted_by d None (Hold first second more))
 
         held : polled_at d.place ≡ None → (xs : List Queued) → From h (start_by rest d true (ready_by None d.poll_ready xs)) → From h (start_by rest now true (ready_by None d.poll_ready xs))
         held none [] g = from_none h
@@ -316,10 +317,10 @@ pub late_next : (h : ℕ) (s : NetState) → AreLate h s → From h (next_start 
 late_next h s late = from_both h (least_start s.rest s.devices) (first_onset s.pulses) (least_late h s.rest s.devices late.devices) late.pulls
 
 -- a frame is handed in, or there is none
-late_sent : (h at device : ℕ) (frame : Option (List ℕ)) (s : NetState) → h ≤ at → AreLate h s → AreLate h (record (after_sent at device frame s) { heard = None })
-late_sent h at device None s l late = record { devices = late.devices; pulls = late.pulls }
-late_sent h at device (Some frame) s l late = record {
-  devices = changed_keeps (IsLate h s.rest) device (λ d. after_submission 16 d frame at) s.devices (λ d p. late_submitted h s.rest at frame d (submit_fault 16 d frame) l p) late.devices;
+late_sent : (h at device : ℕ) (frame : Option (List ℕ)) (ticket : Ticket) (s : NetState) → h ≤ at → AreLate h s → AreLate h (record (after_sent at device frame ticket s) { heard = None })
+late_sent h at device None ticket s l late = record { devices = late.devices; pulls = late.pulls }
+late_sent h at device (Some frame) ticket s l late = record {
+  devices = changed_keeps (IsLate h s.rest) device (λ d. after_submission 16 d frame ticket at) s.devices (λ d p. late_submitted h s.rest at frame ticket d (submit_fault 16 d frame) l p) late.devices;
   pulls = late.pulls;
 }
 
@@ -333,8 +334,8 @@ late_unless h at (Press device key press) s None l late = record {
   devices = changed_keeps (IsLate h s.rest) device (λ d. after_key 16 d key press at) s.devices (λ d p. key_stays h at (IsLate h s.rest) (late_stays h s.rest) key press d (key_fault d key) l p) late.devices;
   pulls = late.pulls;
 }
-late_unless h at (Send device frame) s None l late = late_sent h at device (Some frame) s l late
-late_unless h at (SendNamed device names frame) s None l late = late_sent h at device (named_frame s.devices names frame) s l late
+late_unless h at (Send device frame ticket) s None l late = late_sent h at device (Some frame) ticket s l late
+late_unless h at (SendNamed device names frame ticket) s None l late = late_sent h at device (named_frame s.devices names frame) ticket s l late
 late_unless h at (Outside device act) s None l late =
     record { devices = changed_keeps (IsLate h s.rest) device (λ d. after_act d act) s.devices (λ d p. late_acted h s.rest d act p) late.devices; pulls = late.pulls }
 
@@ -344,11 +345,11 @@ late_event h at event s l late = late_unless h at event s (event_fault s event) 
 
 -- ---- devices from outside stay settled
 
-settled_handed : (at device : ℕ) (frame : Option (List ℕ)) (s : NetState) → AreSettled s → AreSettled (after_sent at device frame s)
-settled_handed at device None s h = h
-settled_handed at device (Some frame) s h = changed_keeps Settles device (λ d. after_submission 16 d frame at) s.devices (λ d p. submitted d (submit_fault 16 d frame) p) h
+settled_handed : (at device : ℕ) (frame : Option (List ℕ)) (ticket : Ticket) (s : NetState) → AreSettled s → AreSettled (after_sent at device frame ticket s)
+settled_handed at device None ticket s h = h
+settled_handed at device (Some frame) ticket s h = changed_keeps Settles device (λ d. after_submission 16 d frame ticket at) s.devices (λ d p. submitted d (submit_fault 16 d frame) p) h
   where
-    submitted : (d : State) (fault : Option SubmitError) → Settles d → Settles (submitted_by d frame at fault)
+    submitted : (d : State) (fault : Option SubmitError) → Settles d → Settles (submitted_by d frame ticket at fault)
     submitted d None p = p
     submitted d (Some error) p = p
 
@@ -358,23 +359,26 @@ settled_unless at (Plug child parent port) s None h = each_keeps Settles 0 (move
 settled_unless at (Unplug child) s None h = each_keeps Settles 0 (moved_by at _) s.devices (λ m d p. settled_moved at m (is_on_wire d) (address_of _ m) d p) h
 settled_unless at (Press device key press) s None h =
     changed_keeps Settles device (λ d. after_key 16 d key press at) s.devices (λ d p. key_stays 0 at Settles (queue_settles 0) key press d (key_fault d key) (omega arith) p) h
-settled_unless at (Send device frame) s None h = settled_handed at device (Some frame) s h
-settled_unless at (SendNamed device names frame) s None h = settled_handed at device (named_frame s.devices names frame) s h
+settled_unless at (Send device frame ticket) s None h = settled_handed at device (Some frame) ticket s h
+settled_unless at (SendNamed device names frame ticket) s None h = settled_handed at device (named_frame s.devices names frame) ticket s h
 settled_unless at (Outside device act) s None h = changed_keeps Settles device (λ d. after_act d act) s.devices (λ d p. acted d (act_fault d) act p) h
   where
     acted : (d : State) (fault : Option KeyError) (act : Act) → Settles d → Settles (acted_by d fault act)
     acted d (Some error) act p = p
-    acted d None (Hold first second) p = λ e. refl
+    acted d None (Hold first second more) p = λ e. refl
     acted d None Empty p = p
 
 settled_sent : (at : ℕ) (fate : Fate) (d : State) → Settles d → Settles (after_sending 16 d fate at)
 settled_sent at fate d p = by (polled_at d.place) refl
   where
+    failed : Settles (after_failure d)
+    failed = two Settles (nat_lt d.attempts (most_again d.queue)) (record d { attempts = d.attempts + 1; class = Retry }) (after_front d) p p
+
     sent : (fate : Fate) → Settles (frame_sent d fate)
-    sent Lost = p
+    sent Lost = two Settles (front_is_counted d.queue) (after_failure d) d failed p
     sent Delivered = p
-    sent Unacked = two Settles (front_is_poll d.queue) (after_front d) (after_failure d) p (two Settles (nat_lt d.attempts 5) (record d { attempts = d.attempts + 1; class = Retry }) (after_front d) p p)
-    sent Broken = two Settles (front_is_poll d.queue) (record d { class = Retry }) (after_failure d) p (two Settles (nat_lt d.attempts 5) (record d { attempts = d.attempts + 1; class = Retry }) (after_front d) p p)
+    sent Unacked = two Settles (front_is_poll d.queue) (after_front d) (after_failure d) p failed
+    sent Broken = two Settles (front_is_poll d.queue) (record d { class = Retry }) (after_failure d) p failed
 
     no : (o : Option ℕ) (a : ℕ) → o ≡ Some a → o ≡ None → ⊥
     no o a e f = cc

@@ -15,6 +15,8 @@ mod Coming
 pub mod Telling
 pub mod Ending
 pub mod Wholly
+pub mod Addressed
+pub mod Saying
 pub mod Answering
 pub mod NoteCalls
 pub mod Kept

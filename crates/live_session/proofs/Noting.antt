@@ -113,7 +113,6 @@ kept_same s applied left few r =
     let none : s.place.events ++ new_events s.notes s.notes ≡ s.place.events = ap (λ (es : List TimedEvent). s.place.events ++ es) (drop_all s.notes.events) ∙ append-nil s.place.events in
     record {
       ready = record {
-        addressed = r.addressed;
         fit = r.fit;
         matched = r.matched;
         early = r.early;
@@ -139,7 +138,6 @@ kept_taken s new line applied left few r read =
     ap (λ (es : List TimedEvent). length (s.place.events ++ es)) added ∙ length-append s.place.events e.events in
     record {
       ready = record {
-        addressed = r.addressed;
         fit = fit;
         matched = r.matched;
         early = horizon_early (length s.tree) s.horizon new new.end refl fit r.early;

@@ -4,26 +4,27 @@ use Rattle.std.proofs.lemmas.Bool.{cases_lt}
 use Rattle.std.proofs.lemmas.Bool.Decides.{nat_tests}
 use Rattle.line_wave.specs.declared.Stretch.{Stretch}
 use Rattle.line_wave.specs.Line.{IsWaveFrom, covers, line_of}
+use Rattle.record_core.specs.declared.cell.Form.{Form}
 use Rattle.live_session.specs.declared.edges.InstantRange.{InstantRange}
-use Rattle.live_session.specs.Edges.{edge_line, edge_reported, edges_reported}
+use Rattle.live_session.specs.Edges.{edge_reported, edge_text, edges_reported}
 
 -- ---- edges past a span
 
-none_past : (span : InstantRange) (at level : ℕ) → span.until ≤ at → edge_reported span at level ≡ []
-none_past span at level l =
+none_past : (form : Form) (span : InstantRange) (at level : ℕ) → span.until ≤ at → edge_reported form span at level ≡ []
+none_past form span at level l =
     let e : nat_lt at span.until ≡ false = grind (arith, nat_tests) in
-    ap (λ b. if nat_le span.from at && b then edge_line at level else []) e ∙ off (nat_le span.from at)
+    ap (λ b. if nat_le span.from at && b then edge_text form at level else []) e ∙ off (nat_le span.from at)
   where
-    off : (a : Bool) → (if a && false then edge_line at level else []) ≡ []
+    off : (a : Bool) → (if a && false then edge_text form at level else []) ≡ []
     off true = refl
     off false = refl
 
-all_past : (span : InstantRange) (from : ℕ) (ss : List Stretch) → IsWaveFrom from ss → span.until ≤ from → edges_reported span ss ≡ []
-all_past span from [] w l = refl
-all_past span from (s ∷ ss) w l =
-    let a : edge_reported span s.from 0 ≡ [] = none_past span s.from 0 (let x = w.0 in omega (arith, l, x)) in
-    let b : edge_reported span s.to 1 ≡ [] = none_past span s.to 1 (let x = w.0 in let y = w.1 in omega (arith, l, x, y)) in
-    let rest : edges_reported span ss ≡ [] = all_past span (s.to + 1) ss w.2 (let x = w.0 in let y = w.1 in omega (arith, l, x, y)) in
+all_past : (form : Form) (span : InstantRange) (from : ℕ) (ss : List Stretch) → IsWaveFrom from ss → span.until ≤ from → edges_reported form span ss ≡ []
+all_past form span from [] w l = refl
+all_past form span from (s ∷ ss) w l =
+    let a : edge_reported form span s.from 0 ≡ [] = none_past form span s.from 0 (let x = w.0 in omega (arith, l, x)) in
+    let b : edge_reported form span s.to 1 ≡ [] = none_past form span s.to 1 (let x = w.0 in let y = w.1 in omega (arith, l, x, y)) in
+    let rest : edges_reported form span ss ≡ [] = all_past form span (s.to + 1) ss w.2 (let x = w.0 in let y = w.1 in omega (arith, l, x, y)) in
     ap₂ (λ x y. x ++ y) (ap₂ (λ x y. x ++ y) a b) rest
 
 -- ---- where a wave is low
@@ -88,24 +89,24 @@ tails u r s rs ss e w v same t l =
       | inr ge ↦ sym (past_first r rs t (omega (arith, ge))) ∙ same t l ∙ past_first s ss t (omega (arith, ge, e))
     ]
 
-pub same_edges : (span : InstantRange) (u f g : ℕ) (a b : List Stretch) → span.until ≤ u → IsWaveFrom f a → IsWaveFrom g b → Agree u a b → edges_reported span a ≡ edges_reported span b
-same_edges span u f g [] [] l w v same = refl
-same_edges span u f g [] (s ∷ ss) l w v same =
+pub same_edges : (form : Form) (span : InstantRange) (u f g : ℕ) (a b : List Stretch) → span.until ≤ u → IsWaveFrom f a → IsWaveFrom g b → Agree u a b → edges_reported form span a ≡ edges_reported form span b
+same_edges form span u f g [] [] l w v same = refl
+same_edges form span u f g [] (s ∷ ss) l w v same =
     elim (cases_lt s.from u) [
       | inl lt ↦ absurd (no_sooner u (s.from + 1) s ss [] v.1 tt (turned u [] (s ∷ ss) same) lt (omega arith))
-      | inr ge ↦ sym (all_past span u (s ∷ ss) (ge, v.1, v.2) l)
+      | inr ge ↦ sym (all_past form span u (s ∷ ss) (ge, v.1, v.2) l)
     ]
-same_edges span u f g (r ∷ rs) [] l w v same =
+same_edges form span u f g (r ∷ rs) [] l w v same =
     elim (cases_lt r.from u) [
       | inl lt ↦ absurd (no_sooner u (r.from + 1) r rs [] w.1 tt same lt (omega arith))
-      | inr ge ↦ all_past span u (r ∷ rs) (ge, w.1, w.2) l
+      | inr ge ↦ all_past form span u (r ∷ rs) (ge, w.1, w.2) l
     ]
-same_edges span u f g (r ∷ rs) (s ∷ ss) l w v same =
+same_edges form span u f g (r ∷ rs) (s ∷ ss) l w v same =
     elim (cases_lt r.from u) [
-      | inl lt ↦ begun (λ h. same_edges span u (r.to + 1) (s.to + 1) rs ss l w.2 v.2 (tails u r s rs ss h w.2 v.2 same)) lt
+      | inl lt ↦ begun (λ h. same_edges form span u (r.to + 1) (s.to + 1) rs ss l w.2 v.2 (tails u r s rs ss h w.2 v.2 same)) lt
       | inr ge ↦ elim (cases_lt s.from u) [
         | inl lt ↦ absurd (no_sooner u r.from s ss (r ∷ rs) v.1 (omega arith, w.1, w.2) (turned u (r ∷ rs) (s ∷ ss) same) lt (omega (arith, lt, ge)))
-        | inr other ↦ all_past span u (r ∷ rs) (ge, w.1, w.2) l ∙ sym (all_past span u (s ∷ ss) (other, v.1, v.2) l)
+        | inr other ↦ all_past form span u (r ∷ rs) (ge, w.1, w.2) l ∙ sym (all_past form span u (s ∷ ss) (other, v.1, v.2) l)
       ]
     ]
   where
@@ -126,17 +127,17 @@ same_edges span u f g (r ∷ rs) (s ∷ ss) l w v same =
           | inr ge ↦ ge
         ]
 
-    both : edges_reported span rs ≡ edges_reported span ss → r.from ≡ s.from → r.to ≡ s.to → edges_reported span (r ∷ rs) ≡ edges_reported span (s ∷ ss)
-    both rest e h = ap₂ (λ x y. x ++ y) (ap₂ (λ x y. edge_reported span x 0 ++ edge_reported span y 1) e h) rest
+    both : edges_reported form span rs ≡ edges_reported form span ss → r.from ≡ s.from → r.to ≡ s.to → edges_reported form span (r ∷ rs) ≡ edges_reported form span (s ∷ ss)
+    both rest e h = ap₂ (λ x y. x ++ y) (ap₂ (λ x y. edge_reported form span x 0 ++ edge_reported form span y 1) e h) rest
 
     -- a stretch that is on at the instant
-    open_at : r.from ≡ s.from → u ≤ r.to → u ≤ s.to → edges_reported span (r ∷ rs) ≡ edges_reported span (s ∷ ss)
+    open_at : r.from ≡ s.from → u ≤ r.to → u ≤ s.to → edges_reported form span (r ∷ rs) ≡ edges_reported form span (s ∷ ss)
     open_at e m n =
-        let a : edge_reported span r.to 1 ≡ edge_reported span s.to 1 = none_past span r.to 1 (omega (arith, l, m)) ∙ sym (none_past span s.to 1 (omega (arith, l, n))) in
-        let b : edges_reported span rs ≡ edges_reported span ss = all_past span (r.to + 1) rs w.2 (omega (arith, l, m)) ∙ sym (all_past span (s.to + 1) ss v.2 (omega (arith, l, n))) in
-        ap₂ (λ x y. x ++ y) (ap₂ (λ x y. edge_reported span x 0 ++ y) e a) b
+        let a : edge_reported form span r.to 1 ≡ edge_reported form span s.to 1 = none_past form span r.to 1 (omega (arith, l, m)) ∙ sym (none_past form span s.to 1 (omega (arith, l, n))) in
+        let b : edges_reported form span rs ≡ edges_reported form span ss = all_past form span (r.to + 1) rs w.2 (omega (arith, l, m)) ∙ sym (all_past form span (s.to + 1) ss v.2 (omega (arith, l, n))) in
+        ap₂ (λ x y. x ++ y) (ap₂ (λ x y. edge_reported form span x 0 ++ y) e a) b
 
-    begun : (r.to ≡ s.to → edges_reported span rs ≡ edges_reported span ss) → r.from < u → edges_reported span (r ∷ rs) ≡ edges_reported span (s ∷ ss)
+    begun : (r.to ≡ s.to → edges_reported form span rs ≡ edges_reported form span ss) → r.from < u → edges_reported form span (r ∷ rs) ≡ edges_reported form span (s ∷ ss)
     begun rest lt =
         let k = not_later lt in
         let j = not_sooner (omega (arith, k, lt)) in

@@ -1,5 +1,6 @@
 -- What the lines of a session tell of edges is in every run that may still come.
 use Rattle.std.proofs.Common.{◌≡◌, ℕ, zero, suc, ◌+◌, ◌<◌, ◌≤◌, ◌&&◌, ◌||◌, max, Bool, true, false, nat_lt, nat_le, if◌then◌else◌, List, [], ◌∷◌, ◌++◌, length, inl, inr, Option, Some, None, Result, Ok, Err, refl, sym, ap, ap₂, subst, ◌∙◌, arith, append-nil, append_assoc}
+use Rattle.live_session.specs.Session.{IsWaitStep, IsWaitStepBy, horizon_waited}
 use Rattle.std.specs.List.{list_any}
 use Rattle.std.proofs.lemmas.Bool.{cases_lt}
 use Rattle.std.proofs.lemmas.Bool.Decides.{nat_tests}
@@ -10,7 +11,6 @@ use Rattle.line_wave.specs.Line.{IsWave, IsWaveFrom}
 use Rattle.line_wave.specs.Bounds.{latest_event}
 use Rattle.line_rounds.specs.declared.Outcome.{Outcome}
 use Rattle.edid_tree.specs.Node.{Node}
-use Rattle.edid_core.specs.declared.edid.Edid.{Edid}
 use Rattle.room_net.specs.State.{first_net}
 use Rattle.room_net.specs.Line.{run_wave}
 use Rattle.room_script.specs.Script.{Notes, AreFramedEvents, IsLineRead, last_time}
@@ -18,7 +18,8 @@ use Rattle.room_script.specs.declared.script.ScriptCause.TheVariants.{Name, Numb
 use Rattle.room_script.specs.declared.script.TimedEvent.{TimedEvent}
 use Rattle.text_core.specs.declared.at.AtWord.{AtWord}
 use Rattle.room_script.specs.declared.script.ScriptCause.{ScriptCause}
-use Rattle.room_run.specs.declared.run.Reporting.TheVariants.{Trace, Line}
+use Rattle.room_run.specs.declared.run.Reporting.{Reporting}
+use Rattle.room_run.specs.declared.run.Reporting.TheVariants.{Line}
 use Rattle.capture_forms.specs.declared.form.CaptureForm.TheVariants.{Edges}
 use Rattle.room_run.specs.declared.run.Totals.{Totals}
 use Rattle.room_run.specs.declared.run.Turn.{Turn}
@@ -30,6 +31,7 @@ use Rattle.room_run.specs.HasRun.{RunsHaveTexts}
 use Rattle.room_run.specs.Certain.{ComesFrom, IsOverBy, LeadsIf, with_more}
 use Rattle.capture_monitor.specs.EdgeText.{edge_lines}
 use Rattle.room_trace.specs.TraceText.{end_line}
+use Rattle.record_core.specs.declared.cell.Form.{Form}
 use Rattle.live_session.specs.declared.answer.RefusalCause.{RefusalCause}
 use Rattle.live_session.specs.declared.answer.RefusalCause.TheVariants.{Script, Past}
 use Rattle.live_session.specs.declared.command.SessionCommand.{SessionCommand}
@@ -38,8 +40,8 @@ use Rattle.live_session.specs.declared.edges.InstantRange.{InstantRange}
 use Rattle.live_session.specs.declared.live.Step.{Step}
 use Rattle.live_session.specs.declared.live.Step.TheVariants.{Refuse, Idle, Show, Go, Edge, Finish}
 use Rattle.live_session.specs.Command.{command_of, pin_time}
-use Rattle.live_session.specs.Edges.{edge_line, edge_reported, edges_reported}
-use Rattle.live_session.specs.Turns.{LeadsWith, MayCome, certain_until}
+use Rattle.live_session.specs.Edges.{edge_reported, edge_text, edges_reported}
+use Rattle.live_session.specs.Turns.{LeadsWith, MayCome, certain_until, form_of}
 use Rattle.live_session.specs.Session.{Session, SessionGoes, is_given_before, is_late, is_past, new_events, new_pulses, refuse, refuses_pulse, rises_before, standing, standing_with, step_by, step_noted, step_show, step_to, step_wait, after_to, after_wait, with_line_counted, with_standing, IsDue, IsEdgeStep, IsEdgeStepBy, IsStepBy}
 use Rattle.live_session.specs.Whole.{IsLine, AreLines, reported_of}
 use Rattle.live_session.specs.Told.{AreOn, EdgesAreCertain, LineEdgesAreCertain, edges_gone, told_in, told_of}
@@ -62,7 +64,7 @@ pub record Came (s t : Session) : Type 0 where
   pub events_are : t.notes.events ≡ s.notes.events ++ events
   pub pulses_are : t.notes.pulses ≡ s.notes.pulses ++ pulses
   pub place_is : t.place ≡ with_more events pulses s.place
-  pub edid_is : t.edid ≡ s.edid
+  pub reporting_is : t.reporting ≡ s.reporting
   pub since_is : t.since ≡ s.since
   pub later : s.horizon ≤ t.horizon
   pub comes : ComesFrom (certain_until s.notes.pin s.horizon) events pulses (certain_until t.notes.pin t.horizon)
@@ -83,21 +85,21 @@ pub record HasCome (step : Step) (s t : Session) : Type 0 where
 pub nothing : (until on : ℕ) → until ≤ on → ComesFrom until [] [] on
 nothing until on l = record { scheduled = All-nil (λ e. until ≤ e.at); begun = All-nil (λ p. until ≤ p.from); over = l }
 
-came_on : (s : Session) (horizon : ℕ) (edges : Bool) → s.horizon ≤ horizon → Came s (record s { horizon = horizon; edges = edges })
-came_on s horizon edges l = record {
+came_on : (s : Session) (horizon : ℕ) (edges seats : Bool) → s.horizon ≤ horizon → Came s (record s { horizon = horizon; edges = edges; seats = seats })
+came_on s horizon edges seats l = record {
   events = [];
   pulses = [];
   events_are = sym (append-nil s.notes.events);
   pulses_are = sym (append-nil s.notes.pulses);
   place_is = sym (same_place s.place);
-  edid_is = refl;
+  reporting_is = refl;
   since_is = refl;
   later = l;
   comes = nothing (certain_until s.notes.pin s.horizon) (certain_until s.notes.pin horizon) (certain_on s.notes.pin s.horizon horizon l);
 }
 
 came_same : (s t : Session) → t ≡ s → Came s t
-came_same s t e = subst (λ (t : Session). Came s t) (sym e) (came_on s s.horizon s.edges (omega arith))
+came_same s t e = subst (λ (t : Session). Came s t) (sym e) (came_on s s.horizon s.edges s.seats (omega arith))
 
 stays : (s t : Session) → t ≡ s → t.horizon ≡ s.horizon
 stays s t e = ap (λ (t : Session). t.horizon) e
@@ -128,7 +130,7 @@ came_taken s line new read late =
       events_are = sym (ap (λ (es : List TimedEvent). s.notes.events ++ es) (front_rest new.events s.notes.events e.events e.events_are) ∙ sym e.events_are);
       pulses_are = sym (ap (λ (ps : List Stretch). s.notes.pulses ++ ps) (front_rest new.pulses s.notes.pulses e.pulses e.pulses_are) ∙ sym e.pulses_are);
       place_is = refl;
-      edid_is = refl;
+      reporting_is = refl;
       since_is = refl;
       later = from_end s.horizon new.end (end_late s (pin_time line) new late);
       comes = c;
@@ -152,7 +154,7 @@ come_read s line (Ok new) is = by (is_late (standing s) (pin_time line) new) ref
 
 come_waited : (s : Session) (soon : Option ℕ) → HasCome (step_wait soon) s (after_wait s soon)
 come_waited s None = record { came = came_same s s refl; still = refl }
-come_waited s (Some time) = record { came = came_on s (max s.horizon time) s.edges (omega arith); still = tt }
+come_waited s (Some time) = record { came = came_on s (max s.horizon time) s.edges s.seats (omega arith); still = tt }
 
 come_to : (s : Session) (time : Option ℕ) → HasCome (step_to s time) s (after_to s time)
 come_to s None = come_same s s 2 (Script Number) refl
@@ -160,11 +162,25 @@ come_to s (Some time) = by (nat_lt time s.horizon) refl
   where
     by : (b : Bool) → nat_lt time s.horizon ≡ b → HasCome (if b then refuse 2 Past else Go) s (if b then s else record s { horizon = time })
     by true e = come_same s s 2 Past refl
-    by false e = record { came = came_on s time s.edges (grind (arith, nat_tests)); still = tt }
+    by false e = record { came = came_on s time s.edges s.seats (grind (arith, nat_tests)); still = tt }
 
 come_shown : (s : Session) (device : Option ℕ) → HasCome (step_show device) s s
 come_shown s None = come_same s s 1 (Script Name) refl
 come_shown s (Some device) = record { came = came_same s s refl; still = refl }
+
+waited_later : (horizon until : ℕ) (soon : Option ℕ) → horizon ≤ until → horizon ≤ horizon_waited horizon until soon
+waited_later horizon until None l = l
+waited_later horizon until (Some time) l = omega arith
+
+come_wait_until : (s : Session) (time : Option ℕ) (step : Step) (t : Session) → IsWaitStep s time step t → HasCome step s t
+come_wait_until s None step t (asks, stands) = subst (λ (step : Step). HasCome step s t) (sym asks) (come_same s t 1 (Script Number) stands)
+come_wait_until s (Some until) step t is = by (nat_lt until s.horizon) refl is
+  where
+    by : (b : Bool) → nat_lt until s.horizon ≡ b → IsWaitStepBy b s until step t → HasCome step s t
+    by true e (asks, stands) = subst (λ (step : Step). HasCome step s t) (sym asks) (come_same s t 1 Past stands)
+    by false e (asks, soon, is, stands) =
+        let l : s.horizon ≤ until = grind (arith, nat_tests) in
+        subst (λ (step : Step). HasCome step s t) (sym asks) (subst (λ (t : Session). HasCome Go s t) (sym stands) (record { came = came_on s (horizon_waited s.horizon until soon) s.edges s.seats (waited_later s.horizon until soon l); still = tt }))
 
 come_edge : (s : Session) (time : Option ℕ) (step : Step) (t : Session) → IsEdgeStep s time step t → HasCome step s t
 come_edge s None step t (asks, stands) = subst (λ (step : Step). HasCome step s t) (sym asks) (come_same s t 1 (Script Number) stands)
@@ -173,20 +189,23 @@ come_edge s (Some until) step t is = by (nat_lt until s.horizon) is
     by : (b : Bool) → IsEdgeStepBy b s until step t → HasCome step s t
     by true (asks, stands) = subst (λ (step : Step). HasCome step s t) (sym asks) (come_same s t 1 Past stands)
     by false (asks, to, edge, stands) =
-        subst (λ (step : Step). HasCome step s t) (sym asks) (subst (λ (t : Session). HasCome Edge s t) (sym stands) (record { came = came_on s (max s.horizon to) s.edges (omega arith); still = tt }))
+        subst (λ (step : Step). HasCome step s t) (sym asks) (subst (λ (t : Session). HasCome Edge s t) (sym stands) (record { came = came_on s (max s.horizon to) s.edges s.seats (omega arith); still = tt }))
 
 pub has_come : (s : Session) (command : SessionCommand) (line : List ℕ) (step : Step) (t : Session) → IsStepBy s command line step t → HasCome step s t
 has_come s commands.Script line step t (read, is, asks, stands) =
     subst (λ (step : Step). HasCome step s t) (sym asks) (subst (λ (t : Session). HasCome (step_noted (standing s) (pin_time line) read) s t) (sym stands) (come_read s line read is))
 has_come s commands.Wait line step t (soon, is, asks, stands) =
     subst (λ (step : Step). HasCome step s t) (sym asks) (subst (λ (t : Session). HasCome (step_wait soon) s t) (sym stands) (come_waited s soon))
+has_come s (commands.WaitUntil time) line step t is = come_wait_until s time step t is
 has_come s (commands.RunTo time) line step t (asks, stands) =
     subst (λ (step : Step). HasCome step s t) (sym asks) (subst (λ (t : Session). HasCome (step_to s time) s t) (sym stands) (come_to s time))
 has_come s (commands.Show device) line step t (asks, stands) =
     subst (λ (step : Step). HasCome step s t) (sym asks) (subst (λ (t : Session). HasCome (step_show device) s t) (sym stands) (come_shown s device))
 has_come s (commands.Edge time) line step t is = come_edge s time step t is
 has_come s (commands.Edges edges) line step t (asks, stands) =
-    subst (λ (step : Step). HasCome step s t) (sym asks) (subst (λ (t : Session). HasCome Go s t) (sym stands) (record { came = came_on s s.horizon edges (omega arith); still = tt }))
+    subst (λ (step : Step). HasCome step s t) (sym asks) (subst (λ (t : Session). HasCome Go s t) (sym stands) (record { came = came_on s s.horizon edges s.seats (omega arith); still = tt }))
+has_come s (commands.Seats seats) line step t (asks, stands) =
+    subst (λ (step : Step). HasCome step s t) (sym asks) (subst (λ (t : Session). HasCome Go s t) (sym stands) (record { came = came_on s s.horizon s.edges seats (omega arith); still = tt }))
 
 -- ---- what is due leaves
 
@@ -255,31 +274,31 @@ ends_none (line ∷ lines) s kept reported text t (mid, own, others, first, seco
 
 -- ---- spans, one after another
 
-sooner : (a b c at level : ℕ) → b ≤ c → at < b → edge_reported (record { from = a; until = b }) at level ≡ edge_reported (record { from = a; until = c }) at level
-sooner a b c at level l m =
+sooner : (form : Form) (a b c at level : ℕ) → b ≤ c → at < b → edge_reported form (record { from = a; until = b }) at level ≡ edge_reported form (record { from = a; until = c }) at level
+sooner form a b c at level l m =
     let e : nat_lt at b ≡ true = grind (arith, nat_tests) in
     let f : nat_lt at c ≡ true = (let n : at < c = omega (arith, l, m) in grind (arith, nat_tests)) in
-    ap (λ x. if nat_le a at && x then edge_line at level else []) (e ∙ sym f)
+    ap (λ x. if nat_le a at && x then edge_text form at level else []) (e ∙ sym f)
 
-later : (a b c at level : ℕ) → a ≤ b → b ≤ at → edge_reported (record { from = b; until = c }) at level ≡ edge_reported (record { from = a; until = c }) at level
-later a b c at level l m =
+later : (form : Form) (a b c at level : ℕ) → a ≤ b → b ≤ at → edge_reported form (record { from = b; until = c }) at level ≡ edge_reported form (record { from = a; until = c }) at level
+later form a b c at level l m =
     let e : nat_le b at ≡ true = grind (arith, nat_tests) in
     let f : nat_le a at ≡ true = (let n : a ≤ at = omega (arith, l, m) in grind (arith, nat_tests)) in
-    ap (λ x. if x && nat_lt at c then edge_line at level else []) (e ∙ sym f)
+    ap (λ x. if x && nat_lt at c then edge_text form at level else []) (e ∙ sym f)
 
-all_later : (a b c from : ℕ) (ss : List Stretch) → IsWaveFrom from ss → a ≤ b → b ≤ from → edges_reported (record { from = b; until = c }) ss ≡ edges_reported (record { from = a; until = c }) ss
-all_later a b c from [] w l m = refl
-all_later a b c from (s ∷ ss) w l m =
-    ap₂ (λ x y. x ++ y) (ap₂ (λ x y. x ++ y) (later a b c s.from 0 l (let x = w.0 in omega (arith, m, x))) (later a b c s.to 1 l (let x = w.0 in let y = w.1 in omega (arith, m, x, y))))
-    (all_later a b c (s.to + 1) ss w.2 l (let x = w.0 in let y = w.1 in omega (arith, m, x, y)))
+all_later : (form : Form) (a b c from : ℕ) (ss : List Stretch) → IsWaveFrom from ss → a ≤ b → b ≤ from → edges_reported form (record { from = b; until = c }) ss ≡ edges_reported form (record { from = a; until = c }) ss
+all_later form a b c from [] w l m = refl
+all_later form a b c from (s ∷ ss) w l m =
+    ap₂ (λ x y. x ++ y) (ap₂ (λ x y. x ++ y) (later form a b c s.from 0 l (let x = w.0 in omega (arith, m, x))) (later form a b c s.to 1 l (let x = w.0 in let y = w.1 in omega (arith, m, x, y))))
+    (all_later form a b c (s.to + 1) ss w.2 l (let x = w.0 in let y = w.1 in omega (arith, m, x, y)))
 
 parts : (x y z : List ℕ) → ((x ++ []) ++ []) ++ (([] ++ y) ++ z) ≡ (x ++ y) ++ z
 parts x y z = ap (λ w. w ++ (y ++ z)) (append-nil (x ++ []) ∙ append-nil x) ∙ sym (append_assoc x y z)
 
-pub spans : (a b c from : ℕ) (ss : List Stretch) → IsWaveFrom from ss → a ≤ b → b ≤ c
-    → edges_reported (record { from = a; until = b }) ss ++ edges_reported (record { from = b; until = c }) ss ≡ edges_reported (record { from = a; until = c }) ss
-spans a b c from [] w l m = refl
-spans a b c from (s ∷ ss) w l m = by (spans a b c (s.to + 1) ss w.2 l m)
+pub spans : (form : Form) (a b c from : ℕ) (ss : List Stretch) → IsWaveFrom from ss → a ≤ b → b ≤ c
+    → edges_reported form (record { from = a; until = b }) ss ++ edges_reported form (record { from = b; until = c }) ss ≡ edges_reported form (record { from = a; until = c }) ss
+spans form a b c from [] w l m = refl
+spans form a b c from (s ∷ ss) w l m = by (spans form a b c (s.to + 1) ss w.2 l m)
   where
     one : InstantRange
     one = record { from = a; until = b }
@@ -290,40 +309,40 @@ spans a b c from (s ∷ ss) w l m = by (spans a b c (s.to + 1) ss w.2 l m)
     both : InstantRange
     both = record { from = a; until = c }
 
-    by : edges_reported one ss ++ edges_reported two ss ≡ edges_reported both ss → edges_reported one (s ∷ ss) ++ edges_reported two (s ∷ ss) ≡ edges_reported both (s ∷ ss)
+    by : edges_reported form one ss ++ edges_reported form two ss ≡ edges_reported form both ss → edges_reported form one (s ∷ ss) ++ edges_reported form two (s ∷ ss) ≡ edges_reported form both (s ∷ ss)
     by rest =
         elim (cases_lt s.from b) [
           | inl lt ↦ elim (cases_lt s.to b) [
             | inl short ↦ (
-                let x = sooner a b c s.from 0 m lt in
-                let y = sooner a b c s.to 1 m short in
-                let p : edge_reported two s.from 0 ≡ [] = before two s.from 0 lt in
-                let q : edge_reported two s.to 1 ≡ [] = before two s.to 1 short in
-                ap₂ (λ u v. u ++ v) (ap (λ u. u ++ edges_reported one ss) (ap₂ (λ u v. u ++ v) x y)) (ap (λ u. u ++ edges_reported two ss) (ap₂ (λ u v. u ++ v) p q))
-                ∙ append_assoc (edge_reported both s.from 0 ++ edge_reported both s.to 1) (edges_reported one ss) (edges_reported two ss)
-                ∙ ap (λ u. (edge_reported both s.from 0 ++ edge_reported both s.to 1) ++ u) rest
+                let x = sooner form a b c s.from 0 m lt in
+                let y = sooner form a b c s.to 1 m short in
+                let p : edge_reported form two s.from 0 ≡ [] = before form two s.from 0 lt in
+                let q : edge_reported form two s.to 1 ≡ [] = before form two s.to 1 short in
+                ap₂ (λ u v. u ++ v) (ap (λ u. u ++ edges_reported form one ss) (ap₂ (λ u v. u ++ v) x y)) (ap (λ u. u ++ edges_reported form two ss) (ap₂ (λ u v. u ++ v) p q))
+                ∙ append_assoc (edge_reported form both s.from 0 ++ edge_reported form both s.to 1) (edges_reported form one ss) (edges_reported form two ss)
+                ∙ ap (λ u. (edge_reported form both s.from 0 ++ edge_reported form both s.to 1) ++ u) rest
                 )
             | inr long ↦ (
-                let x = sooner a b c s.from 0 m lt in
-                let y : edge_reported one s.to 1 ≡ [] = past one s.to 1 long in
-                let z : edges_reported one ss ≡ [] = all_past one (s.to + 1) ss w.2 (omega (arith, long)) in
-                let p : edge_reported two s.from 0 ≡ [] = before two s.from 0 lt in
-                let q = later a b c s.to 1 l long in
-                let r = all_later a b c (s.to + 1) ss w.2 l (omega (arith, long)) in
+                let x = sooner form a b c s.from 0 m lt in
+                let y : edge_reported form one s.to 1 ≡ [] = past form one s.to 1 long in
+                let z : edges_reported form one ss ≡ [] = all_past form one (s.to + 1) ss w.2 (omega (arith, long)) in
+                let p : edge_reported form two s.from 0 ≡ [] = before form two s.from 0 lt in
+                let q = later form a b c s.to 1 l long in
+                let r = all_later form a b c (s.to + 1) ss w.2 l (omega (arith, long)) in
                 ap₂ (λ u v. u ++ v) (ap₂ (λ u v. u ++ v) (ap₂ (λ u v. u ++ v) x y) z) (ap₂ (λ u v. u ++ v) (ap₂ (λ u v. u ++ v) p q) r)
-                ∙ parts (edge_reported both s.from 0) (edge_reported both s.to 1) (edges_reported both ss)
+                ∙ parts (edge_reported form both s.from 0) (edge_reported form both s.to 1) (edges_reported form both ss)
                 )
           ]
-          | inr ge ↦ ap₂ (λ u v. u ++ v) (all_past one b (s ∷ ss) (ge, w.1, w.2) (omega arith)) (all_later a b c b (s ∷ ss) (ge, w.1, w.2) l (omega arith))
+          | inr ge ↦ ap₂ (λ u v. u ++ v) (all_past form one b (s ∷ ss) (ge, w.1, w.2) (omega arith)) (all_later form a b c b (s ∷ ss) (ge, w.1, w.2) l (omega arith))
         ]
 
 -- ---- rounds that were over
 
-pub none_past : (span : InstantRange) (until : ℕ) (os : List Outcome) → until ≤ span.from → AreOver until os → AreLone os → edges_reported span (run_wave os) ≡ []
-none_past span until [] l over lone = refl
-none_past span until (o ∷ os) l over lone =
-    edges_append span o.wave (run_wave os)
-    ∙ ap₂ (λ x y. x ++ y) (all_before span 0 o.rest o.wave lone.1 lone.0.after (let x = over.0 in omega (arith, x, l))) (none_past span until os l over.1 lone.2)
+pub none_past : (form : Form) (span : InstantRange) (until : ℕ) (os : List Outcome) → until ≤ span.from → AreOver until os → AreLone os → edges_reported form span (run_wave os) ≡ []
+none_past form span until [] l over lone = refl
+none_past form span until (o ∷ os) l over lone =
+    edges_append form span o.wave (run_wave os)
+    ∙ ap₂ (λ x y. x ++ y) (all_before form span 0 o.rest o.wave lone.1 lone.0.after (let x = over.0 in omega (arith, x, l))) (none_past form span until os l over.1 lone.2)
 
 pub lone_front : (xs ys : List Outcome) → AreLone (xs ++ ys) → AreLone xs
 lone_front [] ys lone = tt
@@ -331,32 +350,32 @@ lone_front (x ∷ xs) ys lone = (lone.0, lone.1, lone_front xs ys lone.2)
 
 -- ---- the places that lines lead to
 
-known_leads : (Holds : Turn → Config → Type 0) (edid : Option Edid) (until n : ℕ) (c d : Config) (text : List ℕ) → LeadsIf Holds (Trace edid) until n c text d → IsKnown c → IsKnown d
-known_leads Holds edid until zero c d text l k = subst IsKnown (sym l.1) k
-known_leads Holds edid until (suc n) c d text (mid, line, rest, turn, over, after, e) k = known_leads Holds edid until n mid d rest after (known_turn edid (turn_at until c) c mid line turn k)
+known_leads : (Holds : Turn → Config → Type 0) (reporting : Reporting) (until n : ℕ) (c d : Config) (text : List ℕ) → LeadsIf Holds reporting until n c text d → IsKnown c → IsKnown d
+known_leads Holds reporting until zero c d text l k = subst IsKnown (sym l.1) k
+known_leads Holds reporting until (suc n) c d text (mid, line, rest, turn, over, after, e) k = known_leads Holds reporting until n mid d rest after (known_turn reporting (turn_at until c) c mid line turn k)
 
-known_with : (edid : Option Edid) (ended : Bool) (span : InstantRange) (until n : ℕ) (c d : Config) (reported text : List ℕ) → LeadsWith edid ended span until n c reported text d → IsKnown c → IsKnown d
-known_with edid ended span until zero c d reported text l k = subst IsKnown (sym l.2) k
-known_with edid ended span until (suc n) c d reported text (mid, line, edges, others, rest, turn, over, own, after, e, f) k =
-    known_with edid ended span until n mid d others rest after (known_turn edid (turn_at until c) c mid line turn k)
+known_with : (reporting : Reporting) (ended seats : Bool) (span : InstantRange) (until n : ℕ) (c d : Config) (reported text : List ℕ) → LeadsWith reporting ended seats span until n c reported text d → IsKnown c → IsKnown d
+known_with reporting ended seats span until zero c d reported text l k = subst IsKnown (sym l.2) k
+known_with reporting ended seats span until (suc n) c d reported text (mid, line, edges, others, rest, turn, over, own, after, e, f) k =
+    known_with reporting ended seats span until n mid d others rest after (known_turn reporting (turn_at until c) c mid line turn k)
 
-known_start : (edid : Option Edid) (tree : List Node) (s : Session) (reported : List ℕ) → SoFar edid tree s reported → IsKnown (start (first_net tree s.notes.pulses) s.notes.events)
-known_start edid tree s reported r = record {
+known_start : (reporting : Reporting) (tree : List Node) (s : Session) (reported : List ℕ) → SoFar reporting tree s reported → IsKnown (start (first_net tree s.notes.pulses) s.notes.events)
+known_start reporting tree s reported r = record {
   running = record { order = r.sound.order; framed = framed-started tree s.notes.pulses; events = r.sound.framed; settled = settled_started tree s.notes.pulses };
   rising = rising_of (length s.tree) (last_time s.notes.events + 1) 0 s.notes.events r.sound.schedule;
 }
 
-pub known_place : (edid : Option Edid) (tree : List Node) (s : Session) (reported : List ℕ) → SoFar edid tree s reported → IsKnown s.place
-known_place edid tree s reported r =
-    known_leads (IsOverBy (certain_until s.notes.pin s.horizon)) edid (certain_until s.notes.pin s.horizon) r.turns (start (first_net tree s.notes.pulses) s.notes.events) s.place reported r.leads
-    (known_start edid tree s reported r)
+pub known_place : (reporting : Reporting) (tree : List Node) (s : Session) (reported : List ℕ) → SoFar reporting tree s reported → IsKnown s.place
+known_place reporting tree s reported r =
+    known_leads (IsOverBy (certain_until s.notes.pin s.horizon)) reporting (certain_until s.notes.pin s.horizon) r.turns (start (first_net tree s.notes.pulses) s.notes.events) s.place reported r.leads
+    (known_start reporting tree s reported r)
 
 -- ---- one run
 
-pub record IsWhole (edid : Option Edid) (tree : List Node) (events : List TimedEvent) (pulses : List Stretch) (end : ℕ) (os : List Outcome) : Type 0 where
+pub record IsWhole (reporting : Reporting) (tree : List Node) (events : List TimedEvent) (pulses : List Stretch) (end : ℕ) (os : List Outcome) : Type 0 where
   pub turns : ℕ
   pub last : Config
-  pub runs : RunsTo edid end turns (start (first_net tree pulses) events) os last
+  pub runs : RunsTo reporting end turns (start (first_net tree pulses) events) os last
   pub stops : turn_at end last ≡ Stop
   pub running : IsRunning (start (first_net tree pulses) events)
   pub lone : AreLone os
@@ -368,35 +387,35 @@ same_more more events pulses later place =
     (sym (append_assoc place.net.pulses pulses later)) (sym (append_assoc place.events more events))
 
 -- the run from where the session stood, as the line that came has it
-pub record IsLeft (edid : Option Edid) (end : ℕ) (s asked : Session) (more : List TimedEvent) (later : List Stretch) (last : Config) (os : List Outcome) : Type 0 where
+pub record IsLeft (reporting : Reporting) (end : ℕ) (s asked : Session) (more : List TimedEvent) (later : List Stretch) (last : Config) (os : List Outcome) : Type 0 where
   pub turns : ℕ
   pub past : List Outcome
   pub rest : List Outcome
-  pub runs : RunsTo asked.edid end turns (with_more more later asked.place) rest last
+  pub runs : RunsTo asked.reporting end turns (with_more more later asked.place) rest last
   pub whole : os ≡ past ++ rest
   pub there : IsRunning (with_more more later asked.place)
   pub over : AreOver (certain_until s.notes.pin s.horizon) past
 
-pub left : Laws → (edid : Option Edid) (tree : List Node) (events : List TimedEvent) (pulses : List Stretch) (end : ℕ) (os : List Outcome) (s asked : Session) (reported : List ℕ) → (run : IsWhole edid tree events pulses end os)
-    → SoFar edid tree s reported → Came s asked → (f : Future events pulses end asked.notes asked.horizon) → IsLeft edid end s asked f.more f.later run.last os
+pub left : Laws → (reporting : Reporting) (tree : List Node) (events : List TimedEvent) (pulses : List Stretch) (end : ℕ) (os : List Outcome) (s asked : Session) (reported : List ℕ) → (run : IsWhole reporting tree events pulses end os)
+    → SoFar reporting tree s reported → Came s asked → (f : Future events pulses end asked.notes asked.horizon) → IsLeft reporting end s asked f.more f.later run.last os
 unfolding future_before
-left laws edid tree events pulses end os s asked reported run r c f =
+left laws reporting tree events pulses end os s asked reported run r c f =
     let g = future_before events pulses end s asked c f in
     let from = start (first_net tree s.notes.pulses) s.notes.events in
-    let here : RunsTo edid end run.turns (with_more g.more g.later from) os run.last =
-    subst (λ (es : List TimedEvent). RunsTo edid end run.turns (start (first_net tree (s.notes.pulses ++ g.later)) es) os run.last) g.events_are
-    (subst (λ (ps : List Stretch). RunsTo edid end run.turns (start (first_net tree ps) events) os run.last) g.pulses_are run.runs) in
+    let here : RunsTo reporting end run.turns (with_more g.more g.later from) os run.last =
+    subst (λ (es : List TimedEvent). RunsTo reporting end run.turns (start (first_net tree (s.notes.pulses ++ g.later)) es) os run.last) g.events_are
+    (subst (λ (ps : List Stretch). RunsTo reporting end run.turns (start (first_net tree ps) events) os run.last) g.pulses_are run.runs) in
     let running : IsRunning (with_more g.more g.later from) =
     subst (λ (es : List TimedEvent). IsRunning (start (first_net tree (s.notes.pulses ++ g.later)) es)) g.events_are
     (subst (λ (ps : List Stretch). IsRunning (start (first_net tree ps) events)) g.pulses_are run.running) in
-    let p = parted laws.lone edid (certain_until s.notes.pin s.horizon) end r.turns run.turns from s.place run.last reported g.more g.later os (known_start edid tree s reported r).running running g.comes r.leads here run.stops in
+    let p = parted laws.lone reporting (certain_until s.notes.pin s.horizon) end r.turns run.turns from s.place run.last reported g.more g.later os (known_start reporting tree s reported r).running running g.comes r.leads here run.stops in
     let place : with_more g.more g.later s.place ≡ with_more f.more f.later asked.place = same_more c.events f.more c.pulses f.later s.place ∙ ap (with_more f.more f.later) (sym c.place_is) in
-    let own : edid ≡ asked.edid = sym (c.edid_is ∙ r.edid_is) in
+    let own : reporting ≡ asked.reporting = sym (c.reporting_is ∙ r.reporting_is) in
     record {
       turns = p.turns;
       past = p.past;
       rest = p.rest;
-      runs = subst (λ (e : Option Edid). RunsTo e end p.turns (with_more f.more f.later asked.place) p.rest run.last) own (subst (λ (x : Config). RunsTo edid end p.turns x p.rest run.last) place p.runs);
+      runs = subst (λ (e : Reporting). RunsTo e end p.turns (with_more f.more f.later asked.place) p.rest run.last) own (subst (λ (x : Config). RunsTo reporting end p.turns x p.rest run.last) place p.runs);
       whole = p.whole;
       there = subst IsRunning place p.there;
       over = p.over;
@@ -404,66 +423,68 @@ left laws edid tree events pulses end os s asked reported run r c f =
 
 -- ---- one line
 
-gone_told : Laws → (edid : Option Edid) (end : ℕ) (os : List Outcome) (s asked : Session) (more : List TimedEvent) (later : List Stretch) (last : Config) (edges : Bool) (first own : List ℕ) (place : Config)
-    → IsLeft edid end s asked more later last os → turn_at end last ≡ Stop → AreLone os → IsKnown asked.place → MayCome asked.notes.pin asked.horizon more later end → AreEarly asked.notes.pin asked.horizon
+gone_told : Laws → (reporting : Reporting) (end : ℕ) (os : List Outcome) (s asked : Session) (more : List TimedEvent) (later : List Stretch) (last : Config) (edges : Bool) (first own : List ℕ) (place : Config)
+    → IsLeft reporting end s asked more later last os → turn_at end last ≡ Stop → AreLone os → IsKnown asked.place → MayCome asked.notes.pin asked.horizon more later end → AreEarly asked.notes.pin asked.horizon
     → asked.since ≡ s.horizon → edges ≡ true → (goes : SessionGoes edges false asked first own place)
-    → edges_gone edges false asked first own place goes ≡ edges_reported (record { from = s.horizon; until = asked.horizon }) (run_wave os)
-gone_told laws edid end os s asked more later last false first own place w stops lone known may early since on goes = cc
-gone_told laws edid end os s asked more later last true first own place w stops lone known may early since on goes =
+    → edges_gone edges false asked first own place goes ≡ edges_reported (form_of asked.reporting) (record { from = s.horizon; until = asked.horizon }) (run_wave os)
+gone_told laws reporting end os s asked more later last false first own place w stops lone known may early since on goes = cc
+gone_told laws reporting end os s asked more later last true first own place w stops lone known may early since on goes =
     let span : InstantRange = record { from = asked.since; until = asked.horizon } in
     let until = certain_until asked.notes.pin asked.horizon in
     let comes = comes_from asked.notes.pin asked.horizon end more later may in
-    let t = told_of_turns laws.lone asked.edid span until end goes.turns w.turns asked.place place last first goes.over more later w.rest known.running w.there comes goes.leads w.runs stops in
-    let after = known_with asked.edid false span until goes.turns asked.place place first goes.over goes.leads known in
-    let on = told_on laws asked.edid asked.notes.pin span asked.horizon end t.turns place last goes.on more later t.rest after t.there may early goes.last goes.on_is (omega arith) t.runs stops in
-    let past : edges_reported span (run_wave w.past) ≡ [] =
-    none_past span (certain_until s.notes.pin s.horizon) w.past (let x = certain_by s.notes.pin s.horizon in omega (arith, x, since)) w.over (lone_front w.past w.rest (subst AreLone w.whole lone)) in
+    let t = told_of_turns laws.lone asked.reporting asked.seats span until end goes.turns w.turns asked.place place last first goes.over more later w.rest known.running w.there comes goes.leads w.runs stops in
+    let after = known_with asked.reporting false asked.seats span until goes.turns asked.place place first goes.over goes.leads known in
+    let on = told_on laws asked.reporting asked.notes.pin span asked.horizon end t.turns place last goes.on more later t.rest after t.there may early goes.last goes.on_is (omega arith) t.runs stops in
+    let past : edges_reported (form_of asked.reporting) span (run_wave w.past) ≡ [] =
+    none_past (form_of asked.reporting) span (certain_until s.notes.pin s.horizon) w.past (let x = certain_by s.notes.pin s.horizon in omega (arith, x, since)) w.over (lone_front w.past w.rest (subst AreLone w.whole lone)) in
     ap₂ (λ x y. x ++ y) t.edges on
-    ∙ sym (waves_append span t.past t.rest)
-    ∙ ap (λ (xs : List Outcome). edges_reported span (run_wave xs)) (sym t.whole)
-    ∙ ap (λ (x : List ℕ). x ++ edges_reported span (run_wave w.rest)) (sym past)
-    ∙ sym (waves_append span w.past w.rest)
-    ∙ ap (λ (xs : List Outcome). edges_reported span (run_wave xs)) (sym w.whole)
-    ∙ ap (λ (h : ℕ). edges_reported (record { from = h; until = asked.horizon }) (run_wave os)) since
+    ∙ sym (waves_append (form_of asked.reporting) span t.past t.rest)
+    ∙ ap (λ (xs : List Outcome). edges_reported (form_of asked.reporting) span (run_wave xs)) (sym t.whole)
+    ∙ ap (λ (x : List ℕ). x ++ edges_reported (form_of asked.reporting) span (run_wave w.rest)) (sym past)
+    ∙ sym (waves_append (form_of asked.reporting) span w.past w.rest)
+    ∙ ap (λ (xs : List Outcome). edges_reported (form_of asked.reporting) span (run_wave xs)) (sym w.whole)
+    ∙ ap (λ (h : ℕ). edges_reported (form_of asked.reporting) (record { from = h; until = asked.horizon }) (run_wave os)) since
 
 some_none : (end : Option ℕ) (at : ℕ) → end ≡ None → end ≡ Some at → ⊥
 some_none end at e f = cc
 
-step_told : Laws → (edid : Option Edid) (tree : List Node) (end : ℕ) (os : List Outcome) (step : Step) (s asked mid : Session) (reported text : List ℕ) (more : List TimedEvent) (later : List Stretch) (last : Config)
-    → IsLeft edid end s asked more later last os → turn_at end last ≡ Stop → AreLone os → Asked edid tree step asked reported → IsStill step s asked → MayCome asked.notes.pin asked.horizon more later end
+step_told : Laws → (reporting : Reporting) (tree : List Node) (end : ℕ) (os : List Outcome) (step : Step) (s asked mid : Session) (reported text : List ℕ) (more : List TimedEvent) (later : List Stretch) (last : Config)
+    → IsLeft reporting end s asked more later last os → turn_at end last ≡ Stop → AreLone os → Asked reporting tree step asked reported → IsStill step s asked → MayCome asked.notes.pin asked.horizon more later end
     → AreEarly asked.notes.pin asked.horizon → asked.since ≡ s.horizon → asked.edges ≡ true → asked.notes.end ≡ None → (due : IsDue step asked text mid)
-    → told_of step asked text mid due ≡ edges_reported (record { from = s.horizon; until = asked.horizon }) (run_wave os)
-step_told laws edid tree end os (Refuse refusal) s asked mid reported text more later last w stops lone a still may early since on going due = sym (no_edges (record { from = s.horizon; until = asked.horizon }) (run_wave os) (omega (arith, still)))
-step_told laws edid tree end os Idle s asked mid reported text more later last w stops lone a still may early since on going due = sym (no_edges (record { from = s.horizon; until = asked.horizon }) (run_wave os) (omega (arith, still)))
-step_told laws edid tree end os (Show device) s asked mid reported text more later last w stops lone a still may early since on going due = sym (no_edges (record { from = s.horizon; until = asked.horizon }) (run_wave os) (omega (arith, still)))
-step_told laws edid tree end os Go s asked mid reported text more later last w stops lone a still may early since on going due =
-    gone_told laws edid end os s asked more later last asked.edges due.0 due.1 due.2 w stops lone (known_place edid tree asked reported a.so_far) may early since on due.3
-step_told laws edid tree end os Edge s asked mid reported text more later last w stops lone a still may early since on going due =
-    gone_told laws edid end os s asked more later last true due.0 due.1 due.2 w stops lone (known_place edid tree asked reported a.so_far) may early since refl due.3
-step_told laws edid tree end os Finish s asked mid reported text more later last w stops lone a still may early since on going due = absurd (some_none asked.notes.end asked.horizon going a.ended)
+    → told_of step asked text mid due ≡ edges_reported (form_of asked.reporting) (record { from = s.horizon; until = asked.horizon }) (run_wave os)
+step_told laws reporting tree end os (Refuse refusal) s asked mid reported text more later last w stops lone a still may early since on going due = sym (no_edges (form_of asked.reporting) (record { from = s.horizon; until = asked.horizon }) (run_wave os) (omega (arith, still)))
+step_told laws reporting tree end os Idle s asked mid reported text more later last w stops lone a still may early since on going due = sym (no_edges (form_of asked.reporting) (record { from = s.horizon; until = asked.horizon }) (run_wave os) (omega (arith, still)))
+step_told laws reporting tree end os (Show device) s asked mid reported text more later last w stops lone a still may early since on going due = sym (no_edges (form_of asked.reporting) (record { from = s.horizon; until = asked.horizon }) (run_wave os) (omega (arith, still)))
+step_told laws reporting tree end os Go s asked mid reported text more later last w stops lone a still may early since on going due =
+    gone_told laws reporting end os s asked more later last asked.edges due.0 due.1 due.2 w stops lone (known_place reporting tree asked reported a.so_far) may early since on due.3
+step_told laws reporting tree end os Edge s asked mid reported text more later last w stops lone a still may early since on going due =
+    gone_told laws reporting end os s asked more later last true due.0 due.1 due.2 w stops lone (known_place reporting tree asked reported a.so_far) may early since refl due.3
+step_told laws reporting tree end os Finish s asked mid reported text more later last w stops lone a still may early since on going due = absurd (some_none asked.notes.end asked.horizon going a.ended)
 
 -- ---- all lines
 
-pub still_going : (edid : Option Edid) (tree : List Node) (s : Session) (reported : List ℕ) → s.notes.end ≡ None → Reached edid tree s reported → SoFar edid tree s reported
-still_going edid tree s reported none (inl (r, going)) = r
-still_going edid tree s reported none (inr over) = absurd (not_both s.notes.end s.horizon none over.ended)
+pub still_going : (reporting : Reporting) (tree : List Node) (s : Session) (reported : List ℕ) → s.notes.end ≡ None → Reached reporting tree s reported → SoFar reporting tree s reported
+still_going reporting tree s reported none (inl (r, going)) = r
+still_going reporting tree s reported none (inr over) = absurd (not_both s.notes.end s.horizon none over.ended)
 
 -- what one of them tells
-line_by : Laws → (edid : Option Edid) (tree : List Node) (events : List TimedEvent) (pulses : List Stretch) (end : ℕ) (os : List Outcome) → IsWhole edid tree events pulses end os → (s mid : Session)
-    (line kept reported text before : List ℕ) → SoFar edid tree s before → s.notes.end ≡ None → (is : IsLine s line kept reported text mid) → mid.edges ≡ true → mid.notes.end ≡ None
+line_by : Laws → (reporting : Reporting) (tree : List Node) (events : List TimedEvent) (pulses : List Stretch) (end : ℕ) (os : List Outcome) → IsWhole reporting tree events pulses end os → (s mid : Session)
+    (line kept reported text before : List ℕ) → SoFar reporting tree s before → s.notes.end ≡ None → (is : IsLine s line kept reported text mid) → mid.edges ≡ true → mid.notes.end ≡ None
     → (f : Future events pulses end is.asked.notes is.asked.horizon) → MayCome is.asked.notes.pin is.asked.horizon f.more f.later end → AreEarly is.asked.notes.pin is.asked.horizon
-    → (told_of is.step is.asked text mid is.due ≡ edges_reported (record { from = s.horizon; until = mid.horizon }) (run_wave os)) × (s.horizon ≤ mid.horizon)
-line_by laws edid tree events pulses end os run s mid line kept reported text before r going is on none future may early =
+    → (told_of is.step is.asked text mid is.due ≡ edges_reported (form_of reporting) (record { from = s.horizon; until = mid.horizon }) (run_wave os)) × (s.horizon ≤ mid.horizon)
+line_by laws reporting tree events pulses end os run s mid line kept reported text before r going is on none future may early =
     let counted_s = with_line_counted s in
-    let so = counted edid tree s before r in
+    let so = counted reporting tree s before r in
     let come = has_come counted_s (command_of s.tree line) line is.step is.asked is.asks in
-    let asked = asked_by edid tree counted_s before line (command_of s.tree line) is.step is.asked so going is.asks in
+    let asked = asked_by reporting tree counted_s before line (command_of s.tree line) is.step is.asked so going is.asks in
     let keep = due_keeps is.step is.asked mid text is.due in
-    let w = left laws edid tree events pulses end os counted_s is.asked before run so come.came future in
-    let here : told_of is.step is.asked text mid is.due ≡ edges_reported (record { from = s.horizon; until = is.asked.horizon }) (run_wave os) =
-    step_told laws edid tree end os is.step counted_s is.asked mid before text future.more future.later run.last w run.stops run.lone asked come.still may early come.came.since_is
+    let w = left laws reporting tree events pulses end os counted_s is.asked before run so come.came future in
+    let here : told_of is.step is.asked text mid is.due ≡ edges_reported (form_of is.asked.reporting) (record { from = s.horizon; until = is.asked.horizon }) (run_wave os) =
+    step_told laws reporting tree end os is.step counted_s is.asked mid before text future.more future.later run.last w run.stops run.lone asked come.still may early come.came.since_is
     (sym keep.edges ∙ on) (ap (λ (n : Notes). n.end) (sym keep.notes) ∙ none) is.due in (
-      here ∙ ap (λ (h : ℕ). edges_reported (record { from = s.horizon; until = h }) (run_wave os)) (sym keep.horizon),
+      here
+          ∙ ap (λ (r : Reporting). edges_reported (form_of r) (record { from = s.horizon; until = is.asked.horizon }) (run_wave os)) asked.so_far.reporting_is
+          ∙ ap (λ (h : ℕ). edges_reported (form_of reporting) (record { from = s.horizon; until = h }) (run_wave os)) (sym keep.horizon),
       (let x = come.came.later in let y = keep.horizon in omega (arith, x, y)),
     )
 
@@ -472,37 +493,37 @@ high_may : (pin : Option ℕ) (horizon end : ℕ) (more : List TimedEvent) (late
 high_may None horizon end more later high comes = (comes, tt)
 high_may (Some low) horizon end more later high comes = cc
 
-pub line_told : Laws → (edid : Option Edid) (tree : List Node) (events : List TimedEvent) (pulses : List Stretch) (end : ℕ) (os : List Outcome) → IsWhole edid tree events pulses end os
-    → (s mid : Session) (line kept reported text before : List ℕ) → SoFar edid tree s before → s.notes.end ≡ None → (is : IsLine s line kept reported text mid) → mid.edges ≡ true → mid.notes.pin ≡ None
+pub line_told : Laws → (reporting : Reporting) (tree : List Node) (events : List TimedEvent) (pulses : List Stretch) (end : ℕ) (os : List Outcome) → IsWhole reporting tree events pulses end os
+    → (s mid : Session) (line kept reported text before : List ℕ) → SoFar reporting tree s before → s.notes.end ≡ None → (is : IsLine s line kept reported text mid) → mid.edges ≡ true → mid.notes.pin ≡ None
     → mid.notes.end ≡ None → Future events pulses end mid.notes mid.horizon
-    → (told_of is.step is.asked text mid is.due ≡ edges_reported (record { from = s.horizon; until = mid.horizon }) (run_wave os)) × (s.horizon ≤ mid.horizon)
-line_told laws edid tree events pulses end os run s mid line kept reported text before r going is on high none there =
+    → (told_of is.step is.asked text mid is.due ≡ edges_reported (form_of reporting) (record { from = s.horizon; until = mid.horizon }) (run_wave os)) × (s.horizon ≤ mid.horizon)
+line_told laws reporting tree events pulses end os run s mid line kept reported text before r going is on high none there =
     let keep = due_keeps is.step is.asked mid text is.due in
     let future = future_asked events pulses end s mid line kept reported text is there in
     let may = high_may is.asked.notes.pin is.asked.horizon end future.more future.later (ap (λ (n : Notes). n.pin) (sym keep.notes) ∙ high) future.comes in
-    line_by laws edid tree events pulses end os run s mid line kept reported text before r going is on none future may.0 may.1
+    line_by laws reporting tree events pulses end os run s mid line kept reported text before r going is on none future may.0 may.1
 
 -- and where the session goes on it stands after that line as before
-pub line_reached : (edid : Option Edid) (tree : List Node) (s mid : Session) (line kept reported text before : List ℕ) → SoFar edid tree s before → s.notes.end ≡ None → IsLine s line kept reported text mid → mid.notes.end ≡ None
-    → (now : List ℕ) × SoFar edid tree mid now
-line_reached edid tree s mid line kept reported text before r going is none =
-    let asked = asked_by edid tree (with_line_counted s) before line (command_of s.tree line) is.step is.asked (counted edid tree s before r) going is.asks in
+pub line_reached : (reporting : Reporting) (tree : List Node) (s mid : Session) (line kept reported text before : List ℕ) → SoFar reporting tree s before → s.notes.end ≡ None → IsLine s line kept reported text mid → mid.notes.end ≡ None
+    → (now : List ℕ) × SoFar reporting tree mid now
+line_reached reporting tree s mid line kept reported text before r going is none =
+    let asked = asked_by reporting tree (with_line_counted s) before line (command_of s.tree line) is.step is.asked (counted reporting tree s before r) going is.asks in
     let now = before ++ reported_of is.step is.asked text mid is.due in
-    (now, still_going edid tree mid now none (due_reached edid tree is.asked mid before text is.step asked is.due))
+    (now, still_going reporting tree mid now none (due_reached reporting tree is.asked mid before text is.step asked is.due))
 
-lines_told : Laws → (edid : Option Edid) (tree : List Node) (events : List TimedEvent) (pulses : List Stretch) (end : ℕ) (os : List Outcome) → IsWhole edid tree events pulses end os
-    → (lines : List (List ℕ)) (s : Session) (kept : List (List ℕ)) (reported text : List ℕ) (t : Session) (before : List ℕ) → SoFar edid tree s before → s.notes.end ≡ None
+lines_told : Laws → (reporting : Reporting) (tree : List Node) (events : List TimedEvent) (pulses : List Stretch) (end : ℕ) (os : List Outcome) → IsWhole reporting tree events pulses end os
+    → (lines : List (List ℕ)) (s : Session) (kept : List (List ℕ)) (reported text : List ℕ) (t : Session) (before : List ℕ) → SoFar reporting tree s before → s.notes.end ≡ None
     → (l : AreLines lines s kept reported text t) → AreOn lines s kept reported text t l → t.notes.end ≡ None → Future events pulses end t.notes t.horizon
-    → (told_in lines s kept reported text t l ≡ edges_reported (record { from = s.horizon; until = t.horizon }) (run_wave os)) × (s.horizon ≤ t.horizon)
-lines_told laws edid tree events pulses end os run [] s kept reported text t before r going (nothing, none, empty, same) on over f =
+    → (told_in lines s kept reported text t l ≡ edges_reported (form_of reporting) (record { from = s.horizon; until = t.horizon }) (run_wave os)) × (s.horizon ≤ t.horizon)
+lines_told laws reporting tree events pulses end os run [] s kept reported text t before r going (nothing, none, empty, same) on over f =
     let stays : t.horizon ≡ s.horizon = ap (λ (x : Session). x.horizon) same in
-    (sym (no_edges (record { from = s.horizon; until = t.horizon }) (run_wave os) (omega (arith, stays))), omega (arith, stays))
-lines_told laws edid tree events pulses end os run (line ∷ lines) s kept reported text t before r going (mid, own, others, first, second, more, rest, is, after, kept_is, reported_is, text_is) on over f =
+    (sym (no_edges (form_of reporting) (record { from = s.horizon; until = t.horizon }) (run_wave os) (omega (arith, stays))), omega (arith, stays))
+lines_told laws reporting tree events pulses end os run (line ∷ lines) s kept reported text t before r going (mid, own, others, first, second, more, rest, is, after, kept_is, reported_is, text_is) on over f =
     let none : mid.notes.end ≡ None = ends_none lines mid others more rest t after over in
-    let here = line_told laws edid tree events pulses end os run s mid line own first second before r going is on.0 on.1 none (future_of events pulses end lines mid others more rest t after f) in
-    let now = line_reached edid tree s mid line own first second before r going is none in
-    let there = lines_told laws edid tree events pulses end os run lines mid others more rest t now.0 now.1 none after on.2 over f in (
-      ap₂ (λ x y. x ++ y) here.0 there.0 ∙ spans s.horizon mid.horizon t.horizon 0 (run_wave os) run.wave here.1 there.1,
+    let here = line_told laws reporting tree events pulses end os run s mid line own first second before r going is on.0 on.1 none (future_of events pulses end lines mid others more rest t after f) in
+    let now = line_reached reporting tree s mid line own first second before r going is none in
+    let there = lines_told laws reporting tree events pulses end os run lines mid others more rest t now.0 now.1 none after on.2 over f in (
+      ap₂ (λ x y. x ++ y) here.0 there.0 ∙ spans (form_of reporting) s.horizon mid.horizon t.horizon 0 (run_wave os) run.wave here.1 there.1,
       (let x = here.1 in let y = there.1 in omega (arith, x, y)),
     )
 
@@ -511,23 +532,23 @@ framed_both [] fs h k = k
 framed_both (e ∷ es) fs h k = (h.0, framed_both es fs h.1 k)
 
 -- a run has its rounds, and the edges of their lines are its edge file
-pub record IsFiled (edid : Option Edid) (tree : List Node) (events : List TimedEvent) (pulses : List Stretch) (end : ℕ) (file : List ℕ) : Type 0 where
+pub record IsFiled (reporting : Reporting) (tree : List Node) (events : List TimedEvent) (pulses : List Stretch) (end : ℕ) (file : List ℕ) : Type 0 where
   pub rounds : List Outcome
-  pub whole : IsWhole edid tree events pulses end rounds
+  pub whole : IsWhole reporting tree events pulses end rounds
   pub last : ℕ
   pub file_is : file ≡ edge_lines (run_wave rounds) ++ end_line last
 
-pub filed : Laws → OneRun → RunsHaveTexts → EdgesAreTheLine → (edid : Option Edid) (tree : List Node) (events : List TimedEvent) (pulses : List Stretch) (end : ℕ) (file : List ℕ) (totals : Totals) → IsWave pulses → AreFramedEvents events
-    → IsRunText (Line Edges) end (start (first_net tree pulses) events) file totals → IsFiled edid tree events pulses end file
-filed laws one has line edid tree events pulses end file totals order framed run =
+pub filed : Laws → OneRun → RunsHaveTexts → EdgesAreTheLine → (reporting : Reporting) (tree : List Node) (events : List TimedEvent) (pulses : List Stretch) (end : ℕ) (file : List ℕ) (totals : Totals) → IsWave pulses → AreFramedEvents events
+    → IsRunText (Line Edges) end (start (first_net tree pulses) events) file totals → IsFiled reporting tree events pulses end file
+filed laws one has line reporting tree events pulses end file totals order framed run =
     let from = start (first_net tree pulses) events in
-    let trace = has (Trace edid) tree pulses events end order in
+    let trace = has reporting tree pulses events end order in
     let p = trace.2 in
-    let os = rounds_in (Trace edid) end p.run.turns from p.run.body p.run.last p.run.leads in
-    let same = (one (Trace edid) (Line Edges) end from trace.0 file trace.1 totals p run).rounds in
+    let os = rounds_in reporting end p.run.turns from p.run.body p.run.last p.run.leads in
+    let same = (one reporting (Line Edges) end from trace.0 file trace.1 totals p run).rounds in
     let edges = line tree pulses events end file totals order framed run in
     let running : IsRunning from = record { order = order; framed = framed-started tree pulses; events = framed; settled = settled_started tree pulses } in
-    let runs = of_leads edid end p.run.turns from p.run.last p.run.body p.run.leads in
+    let runs = of_leads reporting end p.run.turns from p.run.last p.run.body p.run.leads in
     record {
       rounds = os;
       whole = record {
@@ -536,7 +557,7 @@ filed laws one has line edid tree events pulses end file totals order framed run
         runs = runs;
         stops = p.run.stops;
         running = running;
-        lone = (moved laws.lone edid end p.run.turns from p.run.last os runs running).lone;
+        lone = (moved laws.lone reporting end p.run.turns from p.run.last os runs running).lone;
         wave = subst (λ (xs : List Outcome). IsWave (run_wave xs)) (sym same) edges.read.wave;
       };
       last = max end run.run.last.net.close;
@@ -544,20 +565,20 @@ filed laws one has line edid tree events pulses end file totals order framed run
     }
 
 pub edges_are_certain : Laws → OneRun → RunsHaveTexts → EdgesAreTheLine → EdgesAreCertain
-edges_are_certain laws one has line edid tree before lines kept more x y text told s t b l on going events later end file totals comes order framed run =
+edges_are_certain laws one has line reporting tree before lines kept more x y text told s t b l on going events later end file totals comes order framed run =
     let none : s.notes.end ≡ None = ends_none lines s more y told t l going in
-    let r = still_going edid tree s x none (reached edid tree before kept x text s b) in
-    let last = still_going edid tree t (x ++ y) going (all_lines edid tree lines more s t x y told (inl (r, none)) l) in
+    let r = still_going reporting tree s x none (reached reporting tree before kept x text s b) in
+    let last = still_going reporting tree t (x ++ y) going (all_lines reporting tree lines more s t x y told (inl (r, none)) l) in
     let known = t.notes.events ++ events in
     let pulses = t.notes.pulses ++ later in
-    let is = filed laws one has line edid tree known pulses end file totals order (framed_both t.notes.events events last.sound.framed framed) run in
+    let is = filed laws one has line reporting tree known pulses end file totals order (framed_both t.notes.events events last.sound.framed framed) run in
     let future : Future known pulses end t.notes t.horizon = record { more = events; later = later; events_are = refl; pulses_are = refl; comes = comes_from t.notes.pin t.horizon end events later comes } in
     record {
       wave = run_wave is.rounds;
       order = is.whole.wave;
       end = is.last;
       file_is = is.file_is;
-      told_is = (lines_told laws edid tree known pulses end is.rounds is.whole lines s more y told t x r none l on going future).0;
+      told_is = (lines_told laws reporting tree known pulses end is.rounds is.whole lines s more y told t x r none l on going future).0;
     }
 
 -- ---- a line by itself, whether the pin is high or low
@@ -568,14 +589,14 @@ early_by (Some from) horizon end more [] may limit low = absurd may
 early_by (Some from) horizon end more (pull ∷ later) may limit low = (low from refl, (let x = may.2.over in omega (arith, x, limit)))
 
 pub line_edges_are_certain : Laws → OneRun → RunsHaveTexts → EdgesAreTheLine → LineEdgesAreCertain
-line_edges_are_certain laws one has line edid tree before kept x text s t words own y told b is on going events later end file totals comes limit order framed run =
-    let r = still_going edid tree s x is.goes_on (reached edid tree before kept x text s b) in
-    let now = line_reached edid tree s t words own y told x r is.goes_on is going in
+line_edges_are_certain laws one has line reporting tree before kept x text s t words own y told b is on going events later end file totals comes limit order framed run =
+    let r = still_going reporting tree s x is.goes_on (reached reporting tree before kept x text s b) in
+    let now = line_reached reporting tree s t words own y told x r is.goes_on is going in
     let known = t.notes.events ++ events in
     let pulses = t.notes.pulses ++ later in
-    let whole = filed laws one has line edid tree known pulses end file totals order (framed_both t.notes.events events now.1.sound.framed framed) run in
+    let whole = filed laws one has line reporting tree known pulses end file totals order (framed_both t.notes.events events now.1.sound.framed framed) run in
     let keep = due_keeps is.step is.asked t told is.due in
-    let asked = asked_by edid tree (with_line_counted s) x words (command_of s.tree words) is.step is.asked (counted edid tree s x r) is.goes_on is.asks in
+    let asked = asked_by reporting tree (with_line_counted s) x words (command_of s.tree words) is.step is.asked (counted reporting tree s x r) is.goes_on is.asks in
     let may : MayCome is.asked.notes.pin is.asked.horizon events later end =
     subst (λ (h : ℕ). MayCome is.asked.notes.pin h events later end) keep.horizon (subst (λ (n : Notes). MayCome n.pin t.horizon events later end) keep.notes comes) in
     let future : Future known pulses end is.asked.notes is.asked.horizon = record {
@@ -591,5 +612,5 @@ line_edges_are_certain laws one has line edid tree before kept x text s t words 
       order = whole.whole.wave;
       end = whole.last;
       file_is = whole.file_is;
-      told_is = (line_by laws edid tree known pulses end whole.rounds whole.whole s t words own y told x r is.goes_on is on going future may early).0;
+      told_is = (line_by laws reporting tree known pulses end whole.rounds whole.whole s t words own y told x r is.goes_on is on going future may early).0;
     }

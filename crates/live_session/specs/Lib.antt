@@ -4,6 +4,7 @@ pub mod Turns
 pub mod Session
 pub mod Live
 pub mod Note
+pub mod Shown
 pub mod Taken
 pub mod Whole
 pub mod EdgesStay

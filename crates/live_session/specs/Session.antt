@@ -7,7 +7,6 @@ use Rattle.line_wave.specs.Line.{IsWave}
 use Rattle.line_wave.specs.Bounds.{latest_event}
 use Rattle.line_rounds.specs.declared.Outcome.{Outcome}
 use Rattle.edid_tree.specs.Node.{Node}
-use Rattle.edid_core.specs.declared.edid.Edid.{Edid}
 use Rattle.device_core.specs.State.{State}
 use Rattle.room_net.specs.State.{NetState, first_net}
 use Rattle.room_net.specs.Step.{IsNextRound}
@@ -18,9 +17,12 @@ use Rattle.room_script.specs.declared.script.TimedEvent.{TimedEvent}
 use Rattle.text_core.specs.declared.at.AtWord.{AtWord}
 use Rattle.room_script.specs.declared.script.ScriptCause.{ScriptCause}
 use Rattle.room_script.specs.declared.script.ScriptCause.TheVariants.{Number, Name}
-use Rattle.edid_core.specs.Root.{HasAddress}
+use Rattle.record_core.specs.Cells.{PlainCell, both, hidden, line_only}
+use Rattle.record_core.specs.Values.{nothing, number, switch, text as word}
+use Rattle.record_core.specs.declared.cell.Form.{Form}
+use Rattle.room_trace.specs.Records.{by_form, state_cells}
 use Rattle.room_trace.specs.StateText.{state_line}
-use Rattle.room_run.specs.declared.run.Reporting.TheVariants.{Trace}
+use Rattle.room_run.specs.declared.run.Reporting.{Reporting}
 use Rattle.room_run.specs.declared.run.Turn.{Turn}
 use Rattle.room_run.specs.declared.run.Turn.TheVariants.{Stop, Apply, Round}
 use Rattle.room_run.specs.Run.{Config, start, turn_at, end_reported}
@@ -35,15 +37,15 @@ use Rattle.live_session.specs.declared.live.Step.TheVariants.{Refuse, Idle, Show
 use Rattle.live_session.specs.Command.{command_of, pin_time}
 use Rattle.live_session.specs.declared.edges.InstantRange.{InstantRange}
 use Rattle.live_session.specs.Edges.{first_edge, pinned_by}
-use Rattle.live_session.specs.Turns.{GoesWith, IsWithin, certain_until}
+use Rattle.live_session.specs.Turns.{GoesWith, IsWithin, certain_until, form_of}
 
 -- ---- a session
 
--- the television's EDID, the devices by their names, what the lines that were taken say, the instant before which all was told
--- and from which on more may come, how many lines came, where the run stands, whether edges are reported, and that instant as it
--- was before the last line
+-- what it reports, which has the television's EDID, the devices by their names, what the lines that were taken say, the instant before which all was told
+-- and from which on more may come, how many lines came, where the run stands, whether edges are reported, that instant as it
+-- was before the last line, and whether notes are
 pub record Session : Type 0 where
-  pub edid : Option Edid
+  pub reporting : Reporting
   pub tree : List Node
   pub notes : Notes
   pub horizon : ℕ
@@ -51,10 +53,11 @@ pub record Session : Type 0 where
   pub place : Config
   pub edges : Bool
   pub since : ℕ
+  pub seats : Bool
 
 -- before its first line
-abbrev pub first_session : Option Edid → List Node → Session
-first_session edid tree = record { edid = edid; tree = tree; notes = no_notes; horizon = 0; lines = 0; place = start (first_net tree []) []; edges = false; since = 0 }
+abbrev pub first_session : Reporting → List Node → Session
+first_session reporting tree = record { reporting = reporting; tree = tree; notes = no_notes; horizon = 0; lines = 0; place = start (first_net tree []) []; edges = false; since = 0; seats = false }
 
 -- a line has come; the count stays at its greatest value, and what the line reports of edges begins at the horizon
 abbrev pub with_line_counted : Session → Session
@@ -173,6 +176,22 @@ abbrev pub after_wait : Session → Option ℕ → Session
 after_wait s None = s
 after_wait s (Some time) = record s { horizon = max s.horizon time }
 
+-- ---- `wait T`
+
+-- where one more turn is over, and an instant where none is by then
+abbrev pub horizon_waited : ℕ → ℕ → Option ℕ → ℕ
+horizon_waited horizon until None = until
+horizon_waited horizon until (Some time) = max horizon time
+
+abbrev pub IsWaitStepBy : Bool → Session → ℕ → Step → Session → Type 0
+IsWaitStepBy true s until step t = (step ≡ refuse 1 Past) × (t ≡ s)
+IsWaitStepBy false s until step t = (step ≡ Go) × (soon : Option ℕ) × IsSoonest (certain_until s.notes.pin until) s.place soon × (t ≡ record s { horizon = horizon_waited s.horizon until soon })
+
+-- as `wait`, at most to an instant
+abbrev pub IsWaitStep : Session → Option ℕ → Step → Session → Type 0
+IsWaitStep s None step t = (step ≡ refuse 1 (Script Number)) × (t ≡ s)
+IsWaitStep s (Some until) step t = IsWaitStepBy (nat_lt until s.horizon) s until step t
+
 -- ---- `edge T`
 
 -- the microsecond after the next edge of the line, or after what comes before that is over, an event that is applied or a round that
@@ -221,10 +240,12 @@ abbrev pub IsStepBy : Session → SessionCommand → List ℕ → Step → Sessi
 IsStepBy s commands.Script line step t =
     (read : Result Notes (AtWord ScriptCause)) × IsLineRead s.tree s.notes (length s.place.net.pulses) s.lines line read × (step ≡ step_noted (standing s) (pin_time line) read) × (t ≡ with_standing s (standing_with (standing s) (pin_time line) read))
 IsStepBy s commands.Wait line step t = (soon : Option ℕ) × IsSoonest (certain_until s.notes.pin latest_event) s.place soon × (step ≡ step_wait soon) × (t ≡ after_wait s soon)
+IsStepBy s (commands.WaitUntil time) line step t = IsWaitStep s time step t
 IsStepBy s (commands.RunTo time) line step t = (step ≡ step_to s time) × (t ≡ after_to s time)
 IsStepBy s (commands.Show device) line step t = (step ≡ step_show device) × (t ≡ s)
 IsStepBy s (commands.Edge time) line step t = IsEdgeStep s time step t
 IsStepBy s (commands.Edges edges) line step t = (step ≡ Go) × (t ≡ record s { edges = edges })
+IsStepBy s (commands.Seats seats) line step t = (step ≡ Go) × (t ≡ record s { seats = seats })
 
 -- each line counts, and asks for a step
 abbrev pub IsStep : Session → List ℕ → Step → Session → Type 0
@@ -246,6 +267,33 @@ idle_line horizon = codes "= " ++ (decimal horizon ++ codes " idle\n")
 abbrev pub refused_line : ℕ → Refusal → List ℕ
 refused_line line refusal = codes "! " ++ (decimal line ++ (codes " " ++ (refusal_cause refusal.cause ++ codes "\n")))
 
+-- the same as records: an object also says whether nothing comes any more
+abbrev pub taken_cells : ℕ → List PlainCell
+taken_cells horizon = both (codes "= ") (codes "at") (number horizon) ∷ hidden (codes "idle") (switch false) ∷ []
+
+abbrev pub idle_cells : ℕ → List PlainCell
+idle_cells horizon = both (codes "= ") (codes "at") (number horizon) ∷ line_only (codes " idle") nothing ∷ hidden (codes "idle") (switch true) ∷ []
+
+abbrev pub refused_cells : ℕ → Refusal → List PlainCell
+refused_cells line refusal = both (codes "! ") (codes "script_line") (number line) ∷ both (codes " ") (codes "cause") (word (refusal_cause refusal.cause)) ∷ []
+
+-- a device's state after the mark of an answer
+abbrev pub shown_cells : State → List PlainCell
+shown_cells device = line_only (codes "= ") nothing ∷ state_cells device
+
+-- as a line, or as an object
+abbrev pub taken_text : Form → ℕ → List ℕ
+taken_text form horizon = by_form form (taken_line horizon) (codes "horizon") (taken_cells horizon)
+
+abbrev pub idle_text : Form → ℕ → List ℕ
+idle_text form horizon = by_form form (idle_line horizon) (codes "horizon") (idle_cells horizon)
+
+abbrev pub refused_text : Form → ℕ → Refusal → List ℕ
+refused_text form line refusal = by_form form (refused_line line refusal) (codes "refusal") (refused_cells line refusal)
+
+abbrev pub shown_text : Form → State → List ℕ
+shown_text form device = by_form form (codes "= " ++ state_line device) (codes "state") (shown_cells device)
+
 -- the instants whose edges are reported where a session goes on: none, those from the horizon before the line on to the horizon, or
 -- all that are left
 abbrev pub span_of : Bool → Bool → Session → InstantRange
@@ -256,21 +304,21 @@ span_of true true s = record { from = s.since; until = 18446744073709551615 }
 -- a session goes on: what it reports in the trace, that text with the edges, where edges are reported, and where its run then stands
 abbrev pub SessionGoes : Bool → Bool → Session → List ℕ → List ℕ → Config → Type 0
 SessionGoes edges ended s reported text place =
-    GoesWith s.edid ended s.notes.pin (span_of edges ended s) (certain_until s.notes.pin s.horizon) s.place reported text place
+    GoesWith s.reporting ended s.seats s.notes.pin (span_of edges ended s) (certain_until s.notes.pin s.horizon) s.place reported text place
 
 -- Of each step: the text that is due, and the session after it. It goes on where time has gone on: the turns that are certain, with
 -- the edges that are, then the answer; at the end all that is left of the trace.
 abbrev pub IsDue : Step → Session → List ℕ → Session → Type 0
-IsDue (Refuse refusal) s text t = (text ≡ refused_line s.lines refusal) × (t ≡ s)
-IsDue Idle s text t = (text ≡ idle_line s.horizon) × (t ≡ s)
-IsDue (Show device) s text t = (shown : State) × (slice_get s.place.net.devices device ≡ Some shown) × (text ≡ codes "= " ++ state_line shown) × (t ≡ s)
+IsDue (Refuse refusal) s text t = (text ≡ refused_text (form_of s.reporting) s.lines refusal) × (t ≡ s)
+IsDue Idle s text t = (text ≡ idle_text (form_of s.reporting) s.horizon) × (t ≡ s)
+IsDue (Show device) s text t = (shown : State) × (slice_get s.place.net.devices device ≡ Some shown) × (text ≡ shown_text (form_of s.reporting) shown) × (t ≡ s)
 IsDue Go s text t =
-    (reported : List ℕ) × (own : List ℕ) × (place : Config) × SessionGoes s.edges false s reported own place × (text ≡ own ++ taken_line s.horizon) × (t ≡ record s { place = place })
+    (reported : List ℕ) × (own : List ℕ) × (place : Config) × SessionGoes s.edges false s reported own place × (text ≡ own ++ taken_text (form_of s.reporting) s.horizon) × (t ≡ record s { place = place })
 IsDue Edge s text t =
-    (reported : List ℕ) × (own : List ℕ) × (place : Config) × SessionGoes true false s reported own place × (text ≡ own ++ taken_line s.horizon) × (t ≡ record s { place = place })
+    (reported : List ℕ) × (own : List ℕ) × (place : Config) × SessionGoes true false s reported own place × (text ≡ own ++ taken_text (form_of s.reporting) s.horizon) × (t ≡ record s { place = place })
 IsDue Finish s text t =
     (reported : List ℕ) × (own : List ℕ) × (place : Config) × SessionGoes s.edges true s reported own place
-    × (text ≡ own ++ (end_reported (Trace s.edid) s.horizon place.net ++ taken_line s.horizon)) × (t ≡ record s { place = place })
+    × (text ≡ own ++ (end_reported s.reporting s.horizon place.net ++ taken_text (form_of s.reporting) s.horizon)) × (t ≡ record s { place = place })
 
 -- a step of a session has one text that is due, and one session after it
 abbrev pub StepsHaveOneText : Type 0
@@ -279,7 +327,6 @@ StepsHaveOneText = (step : Step) (s t u : Session) (text other : List ℕ) → I
 -- ---- what holds of every session
 
 pub record IsReady (s : Session) : Type 0 where
-  pub addressed : HasAddress s.edid
   pub fit : AreSound (length s.tree) s.notes
   pub matched : length s.place.net.tree ≡ length s.tree
   pub early : s.horizon ≤ latest_event

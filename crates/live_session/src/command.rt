@@ -3,7 +3,7 @@ ghost use Rattle.std.specs.Prelude.{◌≡◌};
 ghost use Rattle.std.specs.Option.{option_copied};
 ghost use Rattle.text_core.specs.Words.{one_of, two_of, words_after};
 ghost use Rattle.room_script.specs.Script.{time_of};
-ghost use Rattle.live_session.specs.Command.{command_of, edge_words, edges_words, pin_time, pin_words_time, run_words, show_words};
+ghost use Rattle.live_session.specs.Command.{command_of, edge_words, edges_words, seats_words, pin_time, pin_words_time, run_words, show_words, wait_words};
 
 use edid_tree::Tree;
 use room_script::time_in;
@@ -16,6 +16,8 @@ pub enum SessionCommand {
     Script,
     /// `wait`
     Wait,
+    /// `wait T`, with the time, where it is one.
+    WaitUntil(Option<u64>),
     /// `run to T`, with the time, where it is one.
     RunTo(Option<u64>),
     /// `show NAME`, with the device's number, where it has that name.
@@ -24,6 +26,8 @@ pub enum SessionCommand {
     Edge(Option<u64>),
     /// `edges on` or `edges off`: whether edges are reported.
     Edges(bool),
+    /// `seats on` or `seats off`: whether notes of devices from outside are reported.
+    Seats(bool),
 }
 
 // What the words after `run` ask for.
@@ -38,6 +42,16 @@ fn run_in(rest: Option<&[u8]>) -> SessionCommand
     } else {
         SessionCommand::Script
     }
+}
+
+// What the word after `wait` asks for.
+fn wait_in(rest: Option<&[u8]>) -> SessionCommand
+    ensures { result ≡ wait_words (one_of (words_after (option_copied rest.entry))) }
+{
+    let Some(time) = one_word(rest) else {
+        return SessionCommand::Script;
+    };
+    SessionCommand::WaitUntil(time_in(time))
 }
 
 // What the word after `show` asks for.
@@ -76,6 +90,22 @@ fn edges_in(rest: Option<&[u8]>) -> SessionCommand
     }
 }
 
+// What the word after `seats` asks for.
+fn seats_in(rest: Option<&[u8]>) -> SessionCommand
+    ensures { result ≡ seats_words (one_of (words_after (option_copied rest.entry))) }
+{
+    let Some(word) = one_word(rest) else {
+        return SessionCommand::Script;
+    };
+    if word == b"on".as_slice() {
+        SessionCommand::Seats(true)
+    } else if word == b"off".as_slice() {
+        SessionCommand::Seats(false)
+    } else {
+        SessionCommand::Script
+    }
+}
+
 // The time in the words after `pin`.
 fn pin_time_in(rest: Option<&[u8]>) -> Option<u64>
     ensures { result ≡ pin_words_time (two_of (words_after (option_copied rest.entry))) }
@@ -108,12 +138,16 @@ pub(crate) fn command_in(tree: &Tree<15>, line: &[u8]) -> SessionCommand
     let (verb, rest) = first_word(line);
     if verb == b"run".as_slice() {
         run_in(rest)
+    } else if verb == b"wait".as_slice() {
+        wait_in(rest)
     } else if verb == b"show".as_slice() {
         show_in(tree, rest)
     } else if verb == b"edge".as_slice() {
         edge_in(rest)
     } else if verb == b"edges".as_slice() {
         edges_in(rest)
+    } else if verb == b"seats".as_slice() {
+        seats_in(rest)
     } else {
         SessionCommand::Script
     }

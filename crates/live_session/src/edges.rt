@@ -1,10 +1,11 @@
-//! The edges of the line that a session reports.
+//! The edges of the line that a session reports, as lines or as objects.
 ghost use Rattle.std.specs.Prelude.{◌≡◌};
 ghost use Rattle.line_wave.specs.Bounds.{latest_instant};
 ghost use Rattle.text_core.specs.Adds.{Adds};
-ghost use Rattle.live_session.specs.Edges.{edge_line, edge_reported, edges_reported, first_edge, is_in, pinned, pinned_by, stretch_reported};
+ghost use Rattle.live_session.specs.Edges.{edge_reported, edge_text, edges_reported, first_edge, is_in, pinned, pinned_by, stretch_reported};
 
 use line_wave::{LATEST_INSTANT, Stretch};
+use record_core::{Form, Value, add_record, cells};
 use text_core::{Counted, Piece, Sink};
 
 /// The instants from one on and before another.
@@ -15,16 +16,14 @@ pub struct InstantRange {
 }
 
 // Adds an edge.
-fn add_edge_line<S: Sink>(out: &mut Counted<'_, S>, at: u64, level: u64)
-    ensures { Adds out.old out.new (edge_line at level) }
+fn add_edge_record<S: Sink>(out: &mut Counted<'_, S>, form: Form, at: u64, level: u64)
+    ensures { Adds out.old out.new (edge_text form at level) }
 {
-    out.add_line(&[
-        Piece::Text("~ "),
-        Piece::Decimal(at),
-        Piece::Text(" "),
-        Piece::Decimal(level),
-        Piece::Text("\n"),
-    ]);
+    let cells = cells![
+        both("~ ", "at", Value::One(Piece::Decimal(at))),
+        both(" ", "level", Value::One(Piece::Decimal(level))),
+    ];
+    add_record(out, form, "edge", &cells);
 }
 
 fn is_in(span: InstantRange, at: u64) -> bool
@@ -35,44 +34,50 @@ fn is_in(span: InstantRange, at: u64) -> bool
 
 // Adds an edge that lies in the span.
 #[tactic(auto, using(text_core::proofs::Adding::nothing))]
-fn add_edge<S: Sink>(out: &mut Counted<'_, S>, span: InstantRange, at: u64, level: u64)
-    ensures { Adds out.old out.new (edge_reported span at level) }
+fn add_edge<S: Sink>(out: &mut Counted<'_, S>, form: Form, span: InstantRange, at: u64, level: u64)
+    ensures { Adds out.old out.new (edge_reported form span at level) }
 {
     if is_in(span, at) {
-        add_edge_line(out, at, level);
+        add_edge_record(out, form, at, level);
     }
 }
 
 // Adds the edges of a stretch that lie in the span.
 #[tactic(auto, using(text_core::proofs::Adding::then))]
-fn add_stretch<S: Sink>(out: &mut Counted<'_, S>, span: InstantRange, stretch: Stretch)
-    ensures { Adds out.old out.new (stretch_reported span stretch) }
+fn add_stretch<S: Sink>(out: &mut Counted<'_, S>, form: Form, span: InstantRange, stretch: Stretch)
+    ensures { Adds out.old out.new (stretch_reported form span stretch) }
 {
-    add_edge(out, span, stretch.from, 0);
-    add_edge(out, span, stretch.to, 1);
+    add_edge(out, form, span, stretch.from, 0);
+    add_edge(out, form, span, stretch.to, 1);
 }
 
 // Adds the edges of the stretches that lie in the span.
-fn add_stretches<S: Sink>(out: &mut Counted<'_, S>, span: InstantRange, stretches: &[Stretch])
-    ensures { Adds out.old out.new (edges_reported span stretches.now) }
+fn add_stretches<S: Sink>(
+    out: &mut Counted<'_, S>,
+    form: Form,
+    span: InstantRange,
+    stretches: &[Stretch],
+)
+    ensures { Adds out.old out.new (edges_reported form span stretches.now) }
 {
     for stretch in stretches {
-        add_stretch(out, span, *stretch);
+        add_stretch(out, form, span, *stretch);
     }
 }
 
 /// Adds the edges of a round that lie in the span, by its low stretches. Where the span has no instant they are not looked at.
 pub(crate) fn add_edges<S: Sink>(
     out: &mut Counted<'_, S>,
+    form: Form,
     span: InstantRange,
     stretches: &[Stretch],
 )
-    ensures { Adds out.old out.new (edges_reported span stretches.now) }
+    ensures { Adds out.old out.new (edges_reported form span stretches.now) }
 {
     if span.until <= span.from {
         return;
     }
-    add_stretches(out, span, stretches);
+    add_stretches(out, form, span, stretches);
 }
 
 // A pull of a pin that is low, from an instant on.
@@ -89,21 +94,22 @@ fn open_pull(from: u64) -> Stretch
 #[tactic(auto, using(text_core::proofs::Adding::then, text_core::proofs::Adding::nothing))]
 fn add_pinned<S: Sink>(
     out: &mut Counted<'_, S>,
+    form: Form,
     span: InstantRange,
     low: u64,
     stretches: &[Stretch],
 )
-    ensures { Adds out.old out.new (edges_reported span (pinned low stretches.now)) }
+    ensures { Adds out.old out.new (edges_reported form span (pinned low stretches.now)) }
 {
     let Some((stretch, others)) = stretches.split_first() else {
-        add_stretch(out, span, open_pull(low));
+        add_stretch(out, form, span, open_pull(low));
         return;
     };
     if stretch.to < low {
-        add_stretch(out, span, *stretch);
-        add_pinned(out, span, low, others);
+        add_stretch(out, form, span, *stretch);
+        add_pinned(out, form, span, low, others);
     } else {
-        add_stretch(out, span, open_pull(stretch.from.min(low)));
+        add_stretch(out, form, span, open_pull(stretch.from.min(low)));
     }
 }
 
@@ -111,15 +117,16 @@ fn add_pinned<S: Sink>(
 /// it is.
 pub(crate) fn add_edges_by<S: Sink>(
     out: &mut Counted<'_, S>,
+    form: Form,
     span: InstantRange,
     pin: Option<u64>,
     stretches: &[Stretch],
 )
-    ensures { Adds out.old out.new (edges_reported span (pinned_by pin stretches.now)) }
+    ensures { Adds out.old out.new (edges_reported form span (pinned_by pin stretches.now)) }
 {
     match pin {
-        None => add_edges(out, span, stretches),
-        Some(low) => add_pinned(out, span, low, stretches),
+        None => add_edges(out, form, span, stretches),
+        Some(low) => add_pinned(out, form, span, low, stretches),
     }
 }
 

@@ -24,6 +24,7 @@ use edid_tree::Tree;
 use line_rounds::Outcome;
 use line_wave::Stretch;
 use line_wire::EdgeWire;
+use record_core::Form;
 use room_net::{Net, PulseError};
 use room_run::{Reporter, Totals, Turn, next_turn, take_event, take_round};
 use room_script::TimedEvent;
@@ -226,6 +227,7 @@ impl Foreseen {
     fn add_edges<S: Sink>(
         &mut self,
         out: &mut Counted<'_, S>,
+        form: Form,
         begin: u64,
         span: InstantRange,
         pin: Option<u64>,
@@ -233,19 +235,20 @@ impl Foreseen {
         requires early { self.old.close ≤ latest_instant }
         requires begins { next_start self.old ≡ Some begin }
         ensures same { self.new ≡ self.old }
-        ensures edges { (edges : List ℕ) × HasEdges span pin begin self.old edges × Adds out.old out.new edges }
+        ensures edges { (edges : List ℕ) × HasEdges form span pin begin self.old edges × Adds out.old out.new edges }
     {
         let _close = foresee(&mut self.net, begin, &mut self.next, &mut self.is_known);
         let Some(outcome) = &self.next else {
             unreachable!();
         };
-        add_edges_by(out, span, pin, outcome.wave.as_slice());
+        add_edges_by(out, form, span, pin, outcome.wave.as_slice());
     }
 
     /// Adds the edges of the next round that lie in a span, where it is on, and the pin's, where it is low.
     pub fn add_edges_on<S: Sink>(
         &mut self,
         out: &mut Counted<'_, S>,
+        form: Form,
         on: Option<u64>,
         span: InstantRange,
         pin: Option<u64>,
@@ -253,11 +256,11 @@ impl Foreseen {
         requires early { self.old.close ≤ latest_instant }
         requires begins { IfSome on (λ begin. next_start self.old ≡ Some begin) }
         ensures same { self.new ≡ self.old }
-        ensures edges { (edges : List ℕ) × AreEdgesOn span pin self.old on edges × Adds out.old out.new edges }
+        ensures edges { (edges : List ℕ) × AreEdgesOn form span pin self.old on edges × Adds out.old out.new edges }
     {
         match on {
-            None => add_edges_by(out, span, pin, &[]),
-            Some(begin) => self.add_edges(out, begin, span, pin),
+            None => add_edges_by(out, form, span, pin, &[]),
+            Some(begin) => self.add_edges(out, form, begin, span, pin),
         }
     }
 

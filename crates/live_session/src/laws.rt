@@ -14,12 +14,12 @@ pub fn steps_have_one_text()
 {}
 
 /// While a session goes on, what its lines have reported, without the answers, is the front of the trace of every run that may
-/// still come of the lines that were taken.
+/// still come of the lines that were taken, or of the objects of that trace.
 pub fn sessions_report_fronts()
     ensures { SessionsReportFronts }
 {}
 
-/// Once it has ended, that is the trace of the lines that were taken.
+/// Once it has ended, that is the trace of the lines that were taken, or the objects of that trace.
 pub fn sessions_report_traces()
     ensures { SessionsReportTraces }
 {}
@@ -35,8 +35,8 @@ pub fn pinned_edges_stay()
     ensures { PinnedEdgesStay }
 {}
 
-/// What a session has reported is the trace that its topology has with its script, with the lines that were refused and the
-/// session's own ones emptied.
+/// What a session has reported is the trace that its topology has with its script, or the objects of that trace, with the lines that
+/// were refused and the session's own ones emptied.
 pub fn sessions_report_traces_of()
     ensures { SessionsReportTracesOf }
 {}

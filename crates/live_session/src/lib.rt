@@ -9,6 +9,7 @@ mod laws;
 mod live;
 mod note;
 mod session_text;
+mod start;
 mod turns;
 
 pub use answer::{Refusal, RefusalCause};

@@ -21,8 +21,8 @@ use edid_tree::Tree;
 use line_wave::Stretch;
 use room_script::{ScriptDraft, ScriptLineError, TimedEvent, take_line};
 
-// What comes after the first ones.
-fn after<T>(items: &[T], count: usize) -> &[T]
+/// What comes after the first ones.
+pub(crate) fn after<T>(items: &[T], count: usize) -> &[T]
     ensures { result.now ≡ drop count items.now }
 {
     if count <= items.len() {

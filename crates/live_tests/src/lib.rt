@@ -10,6 +10,8 @@ mod edges;
 #[cfg(test)]
 mod faults;
 #[cfg(test)]
+mod objects;
+#[cfg(test)]
 mod pins;
 #[cfg(test)]
 mod pipes;

@@ -1,5 +1,6 @@
 //! A session over two pipes, and what went through them, in the order in which it did.
 use live_dialogue::{SessionError, session};
+use record_core::Form;
 use std::cell::RefCell;
 use std::io::{self, ErrorKind, Read, Write};
 use std::process::Abort;
@@ -80,13 +81,23 @@ pub(crate) fn said_in(
     input: &[u8],
     room: usize,
 ) -> (Vec<u8>, Result<(), SessionError>) {
+    said_as(rt, Form::Text, input, room)
+}
+
+/// The same in lines or in objects.
+pub(crate) fn said_as(
+    rt: &(impl Abort + AllocGlobal),
+    form: Form,
+    input: &[u8],
+    room: usize,
+) -> (Vec<u8>, Result<(), SessionError>) {
     let said = RefCell::new(Vec::new(rt.alloc()));
     let mut driver = Driver {
         rest: input,
         said: &said,
     };
     let mut out = Buffered::new(Writes::new(Told { said: &said, room }));
-    let end = session(rt.alloc(), &mut driver, &mut out);
+    let end = session(rt.alloc(), form, &mut driver, &mut out);
     drop(out);
     drop(driver);
     (said.into_inner(), end)

@@ -1,5 +1,5 @@
 -- What a session writes is the text that the program makes of its input.
-use Rattle.std.proofs.Common.{◌≡◌, ◌≢◌, ℕ, ◌==◌, Bool, true, false, not, codes, List, [], ◌∷◌, ◌++◌, length, drop, drop_at, Option, Some, None, Ok, Result, All, refl, sym, ap, subst, ◌∙◌, append-nil}
+use Rattle.std.proofs.Common.{◌≡◌, ◌≢◌, ℕ, ◌==◌, Bool, true, false, not, codes, List, [], ◌∷◌, ◌++◌, Option, Some, None, All, refl, sym, ap, subst, ◌∙◌, append-nil}
 use Rattle.std.specs.Io.KnownBytes.{Appends, Keeps, append_known}
 use Rattle.std.proofs.lemmas.Bool.{false≢true}
 use Rattle.std.proofs.lemmas.List.Elements.{All-append, All-cons, All-nil, All-weaker}
@@ -8,21 +8,20 @@ use Rattle.text_core.specs.declared.buffered.Buffered.{Buffered}
 use Rattle.text_core.specs.Buffered.{below, pending}
 pub use Rattle.std.proofs.KnownBytes.{Appends-trans}
 use Rattle.text_core.specs.Lines.{lines_of}
-use Rattle.json_live.specs.Object.{AreLiveObjects}
-use Rattle.json_live.specs.Put.{AreAllPut, mark}
 use Rattle.live_incoming.specs.Incoming.{IsWhole, text_of_lines}
 use Rattle.live_incoming.proofs.Coming.{lines_again}
-use Rattle.live_dialogue.specs.Dialogue.{IsDone, IsSession, first_reported}
-use Rattle.live_dialogue.specs.declared.error.SessionError.{SessionError}
+use Rattle.live_dialogue.specs.Dialogue.{IsDone, first_reported}
+use Rattle.record_core.specs.declared.cell.Form.{Form}
+use Rattle.cli_words.specs.Form.{form_by}
 use Rattle.cli_words.specs.declared.choice.CommandChoice.TheVariants.{Live}
-use Rattle.program_calls.specs.Live.{IsLiveDone, Lives, LivesAs, LivesInObjects}
+use Rattle.program_calls.specs.Live.{IsLiveDone, Lives}
 use Rattle.program_calls.specs.Done.{IsServed}
 
 -- ---- the text
 
 -- over a sink that holds nothing
-alone : (known rest old new : Option (List ℕ)) (d : IsDone known rest old new) → IsDone known rest (Some []) (Some (first_reported d.run.first ++ d.over.answers.text))
-alone known rest old new d = record {
+alone : (form : Form) (known rest old new : Option (List ℕ)) (d : IsDone form known rest old new) → IsDone form known rest (Some []) (Some (first_reported d.run.first ++ d.over.answers.text))
+alone form known rest old new d = record {
   run = record {
     topology = d.run.topology;
     first = d.run.first;
@@ -69,8 +68,8 @@ come_known before lines a b =
     ∙ ap (λ l. (before ++ codes "script" ∷ []) ++ l) (sym (lines_again lines b))
 
 -- the lines that were read make an input
-spelled : (rest old new : Option (List ℕ)) (d : IsDone None rest old new) → (input : List ℕ) × IsLiveDone input (first_reported d.run.first ++ d.over.answers.text)
-spelled rest old new d = (
+spelled : (form : Form) (rest old new : Option (List ℕ)) (d : IsDone form None rest old new) → (input : List ℕ) × IsLiveDone form input (first_reported d.run.first ++ d.over.answers.text)
+spelled form rest old new d = (
   text_of_lines ((d.run.opened.lines ++ codes "script" ∷ []) ++ d.over.answers.lines),
   (
     Some [],
@@ -114,9 +113,9 @@ spelled rest old new d = (
 
 -- ---- what the program does
 
-pub lived : (known old new : Option (List ℕ)) (name : List ℕ) → Lives known old new → IsServed known old new (Live false) name
-lived None old new name (rest, d) =
-    let of = spelled rest old new d in record {
+pub lived : (json : Bool) (known old new : Option (List ℕ)) (name : List ℕ) → Lives (form_by json) known old new → IsServed known old new (Live json) name
+lived json None old new name (rest, d) =
+    let of = spelled (form_by json) rest old new d in record {
       input = of.0;
       all = tt;
       written = (
@@ -125,12 +124,12 @@ lived None old new name (rest, d) =
         Appends-trans old d.run.so_far new (first_reported d.run.first) d.over.answers.text d.run.put d.over.answers.put,
       );
     }
-lived (Some all) old new name (rest, d) = record {
+lived json (Some all) old new name (rest, d) = record {
   input = all;
   all = refl;
   written = (
     first_reported d.run.first ++ d.over.answers.text,
-    (rest, alone (Some all) rest old new d),
+    (rest, alone (form_by json) (Some all) rest old new d),
     Appends-trans old d.run.so_far new (first_reported d.run.first) d.over.answers.text d.run.put d.over.answers.put,
   );
 }
@@ -152,8 +151,8 @@ keeps_appends (Some x) (Some y) None text k a = absurd a
 keeps_appends (Some x) (Some y) (Some z) text k a = a ∙ ap (λ l. l ++ text) k
 
 -- a session after what was put before
-after_more : (known rest old mid new : Option (List ℕ)) → Keeps old mid → IsDone known rest mid new → IsDone known rest old new
-after_more known rest old mid new k d = record {
+after_more : (form : Form) (known rest old mid new : Option (List ℕ)) → Keeps old mid → IsDone form known rest mid new → IsDone form known rest old new
+after_more form known rest old mid new k d = record {
   run = record {
     topology = d.run.topology;
     first = d.run.first;
@@ -168,57 +167,7 @@ after_more known rest old mid new k d = record {
   trace = d.trace;
 }
 
-pub lives : {S : Type 0} (contents : S → Option (List ℕ)) (known rest old mid : Option (List ℕ)) (b : Buffered S) → Keeps old mid → IsDone known rest mid (append_known (contents (below b)) (pending b)) → pending b ≡ []
-    → Lives known old (contents (below b))
-lives contents known rest old mid b k d empty =
-    (rest, subst (λ (new : Option (List ℕ)). IsDone known rest old new) (whole_below contents b empty) (after_more known rest old mid (append_known (contents (below b)) (pending b)) k d))
-
--- ---- in objects of JSON
-
--- what comes after the same text is the same
-same_after : (front x y : List ℕ) → front ++ x ≡ front ++ y → x ≡ y
-same_after front x y e = sym (drop_at front x (length front) refl) ∙ ap (drop (length front)) e ∙ drop_at front y (length front) refl
-
-pub lived_in_objects : (known old new : Option (List ℕ)) (name : List ℕ) → LivesInObjects known old new → IsServed known old new (Live true) name
-lived_in_objects known old new name l =
-    let served = lived known (Some l.front) (Some (l.front ++ l.lines)) name l.lives in
-    let lines = served.written.0 in
-    let same : l.lines ≡ lines = same_after l.front l.lines lines served.written.2 in record {
-      input = served.input;
-      all = served.all;
-      written = (l.objects, (lines, served.written.1, subst (λ (t : List ℕ). AreLiveObjects (lines_of t) l.objects) same l.are), l.put);
-    }
-
-pub lived_as : (json : Bool) (known old new : Option (List ℕ)) (name : List ℕ) → LivesAs json known old new → IsServed known old new (Live json) name
-lived_as false known old new name l = lived known old new name l
-lived_as true known old new name l = lived_in_objects known old new name l
-
--- a session grows what was put by the text that is due
-grown : (known rest new : Option (List ℕ)) (front : List ℕ) → IsDone known rest (Some front) new → (text : List ℕ) × (new ≡ Some (front ++ text))
-grown known rest None front d = absurd (none (Some front) d.run.so_far (first_reported d.run.first) d.over.answers.text d.run.put d.over.answers.put)
-  where
-    none : (old mid : Option (List ℕ)) (x y : List ℕ) → Appends (Some front) mid x → Appends mid None y → ⊥
-    none old None x y a b = a
-    none old (Some m) x y a b = b
-grown known rest (Some new) front d =
-    let text = first_reported d.run.first ++ d.over.answers.text in
-    (text, ap Some (Appends-trans (Some front) d.run.so_far (Some new) (first_reported d.run.first) d.over.answers.text d.run.put d.over.answers.put))
-
--- a session whose text comes after the mark of what the sink held at first, of which each line has its object
-pub in_objects : (known rest old put new : Option (List ℕ)) (held : Option (List ℕ)) → held ≡ Some (mark old) → IsDone known rest held put
-    → ((first : Option (List ℕ)) (text : List ℕ) → put ≡ Some (mark first ++ text) → AreAllPut text first new) → LivesInObjects known old new
-in_objects known rest old put new held is d puts =
-    let done : IsDone known rest (Some (mark old)) put = subst (λ (h : Option (List ℕ)). IsDone known rest h put) is d in
-    let more = grown known rest put (mark old) done in
-    let all = puts old more.0 more.1 in record {
-      front = mark old;
-      lines = more.0;
-      lives = (rest, subst (λ (p : Option (List ℕ)). IsDone known rest (Some (mark old)) p) more.1 done);
-      objects = all.0;
-      are = all.1;
-      put = all.2;
-    }
-
--- a session that came to its end
-pub served : (known rest old new : Option (List ℕ)) (r : Result Unit SessionError) → r ≡ Ok tt → IsSession known rest old new r → IsDone known rest old new
-served known rest old new r ok is = subst (IsSession known rest old new) ok is
+pub lives : {S : Type 0} (form : Form) (contents : S → Option (List ℕ)) (known rest old mid : Option (List ℕ)) (b : Buffered S) → Keeps old mid → IsDone form known rest mid (append_known (contents (below b)) (pending b)) → pending b ≡ []
+    → Lives form known old (contents (below b))
+lives form contents known rest old mid b k d empty =
+    (rest, subst (λ (new : Option (List ℕ)). IsDone form known rest old new) (whole_below contents b empty) (after_more form known rest old mid (append_known (contents (below b)) (pending b)) k d))

@@ -4,8 +4,7 @@ use Rattle.program_captures.specs.Following.{FollowsTo}
 use Rattle.program_calls.specs.Done.{AreServedAs, IsHelp, IsServed, IsServedOf}
 use Rattle.cli_words.specs.declared.choice.Asked.{Asked}
 use Rattle.cli_words.specs.declared.choice.CommandChoice.TheVariants.{Follow}
-use Rattle.follow_core.specs.declared.lines.LineForm.{LineForm}
-use Rattle.cli_words.specs.declared.choice.FollowReport.{FollowReport}
+use Rattle.cli_words.specs.declared.choice.FollowChoice.{FollowChoice}
 
 -- where a choice was made
 pub chosen : (o : Option Asked) (asked : Asked) (name : List ℕ) (operands : List (List ℕ)) (stdin : Option (List ℕ)) (held : List ℕ → Option (List ℕ)) (old new : Option (List ℕ)) → o ≡ Some asked
@@ -18,9 +17,8 @@ pub helped : (o : Option Asked) (name : List ℕ) (operands : List (List ℕ)) (
 helped o name operands stdin held old new is help = subst (λ x. AreServedAs x name operands stdin held old new) (sym is) help
 
 -- a capture that is reported as its lines come
-pub followed : (form : LineForm) (margin : ℕ) (report : FollowReport) (known old new : Option (List ℕ)) (name : List ℕ) → FollowsTo form name margin report known old new
-    → IsServed known old new (Follow form margin report) name
-followed form margin report known old new name f = record {
+pub followed : (choice : FollowChoice) (known old new : Option (List ℕ)) (name : List ℕ) → FollowsTo choice name known old new → IsServed known old new (Follow choice) name
+followed choice known old new name f = record {
   input = f.input;
   all = f.all;
   written = (f.text, f.reported, f.put);

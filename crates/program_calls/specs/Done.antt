@@ -24,7 +24,7 @@ use Rattle.cli_words.specs.MonFlags.{signal_in}
 use Rattle.cli_words.specs.Operands.{asked_on, is_report, operands_in, words_in}
 use Rattle.cli_words.specs.declared.choice.Asked.{Asked}
 use Rattle.cli_words.specs.declared.choice.CommandChoice.{CommandChoice}
-use Rattle.cli_words.specs.declared.choice.CommandChoice.TheVariants.{Run, Check, CheckCapture, Step, Live, Asm, Dis, Lay, Mon, Follow, Json, Edid}
+use Rattle.cli_words.specs.declared.choice.CommandChoice.TheVariants.{Run, Check, CheckCapture, Step, Live, Asm, Dis, Lay, Mon, Follow, CapturedLine, Json, Edid}
 use Rattle.cli_words.specs.declared.choice.Objects.{Objects}
 use Rattle.cli_words.specs.declared.choice.Objects.TheVariants as of
 use Rattle.cli_words.specs.declared.choice.Listing.{Listing}
@@ -32,11 +32,13 @@ use Rattle.cli_words.specs.declared.choice.Listing.TheVariants.{Trace, Line, Dri
 use Rattle.cli_words.specs.declared.choice.TestView.{TestView}
 use Rattle.cli_words.specs.declared.choice.TestView.TheVariants.{Report, Traced}
 use Rattle.program_captures.specs.Captures.{IsShown, form_of, name_of, report_of}
+use Rattle.program_captures.specs.Edges.{AreEdges}
 use Rattle.program_captures.specs.Following.{IsReported}
 use Rattle.program_edids.specs.Edids.{IsMade}
 use Rattle.program_edids.specs.Told.{told}
 use Rattle.program_calls.specs.CaptureTests.{IsCaptureTest}
-use Rattle.program_calls.specs.Live.{IsLiveDoneAs}
+use Rattle.cli_words.specs.Form.{form_by}
+use Rattle.program_calls.specs.Live.{IsLiveDone}
 use Rattle.program_calls.specs.Reports.{WritesReports, report_kind}
 use Rattle.program_input.specs.Parted.{IsRunInput, IsStepsInput}
 use Rattle.program_input.specs.Read.{IsAllOf}
@@ -141,20 +143,21 @@ IsDone (Run listing strict) name input text = (totals : Totals) × IsListed list
 IsDone (Check view) name input text = IsTestDone view input text
 IsDone (CheckCapture form glitch) name input text = IsCaptureTest form name glitch input text
 IsDone (Step form) name input text = AreStepsDone form input text
-IsDone (Live json) name input text = IsLiveDoneAs json input text
+IsDone (Live json) name input text = IsLiveDone (form_by json) input text
 IsDone Asm name input text = (frames : List (List ℕ)) × AreTextsOf (lines_of_frames (lines_of input)) frames × (text ≡ flat_map frame_line frames)
 IsDone (Dis meaning form) name input text = (first_fault 1 (lines_of input) ≡ None) × (text ≡ flat_map (dis_text form meaning) (lines_of input))
 IsDone (Lay form) name input text = (pulls : List Stretch) × AreLinesRead (lines_of input) 1 no_notes (Ok pulls) × (text ≡ flat_map (pull_record form) pulls)
 IsDone (Mon mon) name input text =
     IsShown mon.written mon.folded (form_of mon.form input) name mon.inverted mon.glitch mon.margin (report_of mon.report (form_of mon.form input)) input text
-IsDone (Follow form margin report) name input text = IsReported form margin report name input text
+IsDone (Follow choice) name input text = IsReported choice name input text
+IsDone (CapturedLine form inverted glitch) name input text = AreEdges (form_of form input) name inverted glitch input text
 IsDone (Json objects) name input text = (lines : List ℕ) × AreLines objects name input lines × AreObjectsOf objects input lines text
 IsDone (Edid source reading view) name input text = IsMade (told source input) reading view input text
 
 -- the choices whose lines are answered as they come
 abbrev pub is_line_by_line : CommandChoice → Bool
 is_line_by_line (Live json) = true
-is_line_by_line (Follow form margin report) = true
+is_line_by_line (Follow choice) = true
 is_line_by_line choice = false
 
 -- a choice is done for an input: its text is written, and nothing else

@@ -27,11 +27,12 @@ pub fn input_of(choice: CommandChoice, input: &[u8]) -> Input {
         CommandChoice::Run { .. }
         | CommandChoice::Step { .. }
         | CommandChoice::Json(Objects::Trace { .. } | Objects::Room { .. }) => Input::Network,
-        CommandChoice::Live { .. } | CommandChoice::Follow { .. } => Input::Session,
+        CommandChoice::Live { .. } | CommandChoice::Follow(_) => Input::Session,
         CommandChoice::Asm
         | CommandChoice::Dis { .. }
         | CommandChoice::Lay { .. }
-        | CommandChoice::Mon(_) => Input::Lines,
+        | CommandChoice::Mon(_)
+        | CommandChoice::CapturedLine { .. } => Input::Lines,
         CommandChoice::Edid { source, .. } => match told(source, input) {
             Source::Bytes | Source::Pair { dumps: false, .. } => Input::EdidBytes,
             Source::Dump { .. } | Source::Pair { dumps: true, .. } => Input::Lines,
@@ -44,15 +45,14 @@ pub fn input_of(choice: CommandChoice, input: &[u8]) -> Input {
 /// The form of the capture that a choice takes from its input.
 pub fn form_in(choice: CommandChoice, input: &[u8]) -> CaptureForm {
     match choice {
-        CommandChoice::Mon(MonChoice { form, .. }) => form_of(form, input),
-        CommandChoice::Follow {
-            form: LineForm::Pin,
-            ..
-        } => CaptureForm::Pin,
-        CommandChoice::Follow {
-            form: LineForm::Csv,
-            ..
-        } => CaptureForm::Csv,
+        CommandChoice::Mon(MonChoice { form, .. }) | CommandChoice::CapturedLine { form, .. } => {
+            form_of(form, input)
+        }
+        CommandChoice::Follow(choice) => match choice.form {
+            LineForm::Edges => CaptureForm::Edges,
+            LineForm::Pin => CaptureForm::Pin,
+            LineForm::Csv => CaptureForm::Csv,
+        },
         CommandChoice::CheckCapture { form, .. }
         | CommandChoice::Json(Objects::CaptureTest { form, .. }) => {
             match capture_parts(input) {

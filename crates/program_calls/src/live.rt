@@ -1,14 +1,15 @@
 //! A session: the lines of an input, answered as they come.
-ghost use Rattle.std.specs.Prelude.{◌≡◌, None, Ok, OnOk};
+ghost use Rattle.std.specs.Prelude.{◌≡◌, OnOk};
 ghost use Rattle.text_core.specs.Buffered.{below};
-ghost use Rattle.program_calls.specs.Live.{Lives, LivesInObjects};
+ghost use Rattle.cli_words.specs.Form.{form_by};
+ghost use Rattle.program_calls.specs.Live.{Lives};
 
 use crate::fault::ProgramFault;
 use explain_core::explain_line;
 use explain_marks::InputFault;
-use json_live::{Finished, Halt, LiveObjects};
-use live_dialogue::{RefusalHearer, SessionError, session_heard};
+use live_dialogue::{RefusalHearer, session_heard};
 use live_session::{Refusal, RefusalCause};
+use record_core::Form;
 use std::alloc::{AllocError, Global};
 use std::io::Read;
 use text_core::{At, Buffered, Sink, put_all};
@@ -87,42 +88,26 @@ impl<E: Sink> RefusalHearer for Explainer<'_, E> {
     }
 }
 
-/// Answers each line of an input before it reads the next one. What was put to the sink before is handed on first. A refused line is
-/// explained where that is asked for.
+/// Whether a session is answered in lines or in objects.
+pub(crate) fn form_by(json: bool) -> Form
+    ensures { result ≡ form_by json }
+{
+    if json { Form::Json } else { Form::Text }
+}
+
+/// Answers each line of an input before it reads the next one, in lines or in objects. What was put to the sink before is handed on
+/// first. A refused line is explained where that is asked for.
 #[inline(never)]
 pub(crate) fn live<R: Read, W: Sink, E: Sink>(
     alloc: Global,
+    form: Form,
     input: &mut R,
     out: &mut Buffered<W>,
     explainer: &mut Explainer<'_, E>,
 ) -> Result<(), ProgramFault>
-    ensures { OnOk result (Lives (R.remaining input.old) (⟦<Buffered<W> as Sink>⟧.contents out.old) (W.contents (below out.new))) }
+    ensures { OnOk result (Lives form (R.remaining input.old) (⟦<Buffered<W> as Sink>⟧.contents out.old) (W.contents (below out.new))) }
 {
     out.flush()?;
-    session_heard(alloc, input, out, explainer)?;
+    session_heard(alloc, form, input, out, explainer)?;
     Ok(())
-}
-
-/// How a session in objects ended, why no more objects were put, where that is so, and the sink that it wrote to.
-#[derive(Drop)]
-pub(crate) struct LiveEnded<W: Sink> {
-    pub done: Result<(), SessionError>,
-    pub halted: Option<Halt>,
-    pub out: Buffered<W>,
-}
-
-/// [`live`], which writes the object of each line, and hands it on, before it reads the next one.
-#[inline(never)]
-pub(crate) fn live_in_objects<R: Read, W: Sink, E: Sink>(
-    alloc: Global,
-    input: &mut R,
-    out: W,
-    explainer: &mut Explainer<'_, E>,
-) -> LiveEnded<W>
-    ensures { result.done ≡ Ok tt → result.halted ≡ None → LivesInObjects (R.remaining input.old) (W.contents out) (W.contents (below result.out)) }
-{
-    let mut lines = Buffered::new(LiveObjects::new(alloc, out));
-    let done = session_heard(alloc, input, &mut lines, explainer);
-    let Finished { halted, out } = lines.into_below().finish();
-    LiveEnded { done, halted, out }
 }

@@ -8,12 +8,13 @@ use crate::fault::ProgramFault;
 use crate::objects::write_json;
 use crate::run::{run, run_to_drives, run_to_line};
 use crate::told::Recap;
+use capture_forms::CaptureForm;
 use cli_words::{CommandChoice, Listing, MonChoice};
 use expect_sweep::ProgressHearer;
 use message_lay::lay_lines;
 use message_meaning::dis_lines;
 use message_text::asm_lines;
-use program_captures::show;
+use program_captures::{show, write_edges};
 use program_edids::edid::edid;
 use program_input::{run_parts, steps_parts};
 use record_core::Form;
@@ -92,6 +93,22 @@ fn show_capture<W: Sink>(
     Ok(Recap::Capture(signs))
 }
 
+#[inline(never)]
+fn write_line<W: Sink>(
+    alloc: Global,
+    form: Option<CaptureForm>,
+    signal: &[u8],
+    inverted: bool,
+    glitch: u64,
+    input: &[u8],
+    out: &mut W,
+) -> Result<Recap, ProgramFault>
+    ensures { OnOk result (Writes (CommandChoice.CapturedLine form inverted glitch) signal.now input.now (W.contents out.old) (W.contents out.new)) }
+{
+    write_edges(alloc, form, signal, inverted, glitch, input, out)?;
+    Ok(Recap::Nothing)
+}
+
 /// Does what is asked for. Of a run the result has the counts. Of a sweep the hearer hears how far it is, where that is asked for.
 pub fn perform<W: Sink, H: ProgressHearer>(
     alloc: Global,
@@ -116,11 +133,16 @@ pub fn perform<W: Sink, H: ProgressHearer>(
             test_capture(alloc, form, signal, glitch, input, out)
         }
         CommandChoice::Step { form } => step(alloc, form, input, out),
-        CommandChoice::Live { .. } | CommandChoice::Follow { .. } => unreachable!(),
+        CommandChoice::Live { .. } | CommandChoice::Follow(_) => unreachable!(),
         CommandChoice::Asm => assemble(input, out),
         CommandChoice::Dis { meaning, form } => disassemble(meaning, form, input, out),
         CommandChoice::Lay { form } => lay(form, input, out),
         CommandChoice::Mon(mon) => show_capture(alloc, mon, signal, input, out),
+        CommandChoice::CapturedLine {
+            form,
+            inverted,
+            glitch,
+        } => write_line(alloc, form, signal, inverted, glitch, input, out),
         CommandChoice::Json(objects) => write_json(alloc, objects, signal, input, out),
         CommandChoice::Edid {
             source,

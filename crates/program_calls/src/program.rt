@@ -1,19 +1,19 @@
 //! The program over files, a reader and two sinks.
-ghost use Rattle.std.specs.Prelude.{◌≡◌, ◌<◌, true, false, OnOk, IfOk, None, Ok, length, map, string_bytes};
+ghost use Rattle.std.specs.Prelude.{◌≡◌, ◌<◌, true, false, OnOk, IfOk, Ok, length, map, string_bytes};
 ghost use Rattle.std.specs.Io.KnownBytes.{Keeps};
 ghost use Rattle.text_core.specs.Buffered.{below};
 ghost use Rattle.program_captures.specs.Captures.{name_of};
 ghost use Rattle.program_captures.specs.Following.{FollowsTo};
 ghost use Rattle.std.specs.Option.{option_copied};
 ghost use Rattle.program_calls.specs.Done.{AreServed, AreServedAs, IsHelp, IsServed, IsServedOf, IsServedOfSeveral, Writes, is_line_by_line};
-ghost use Rattle.program_calls.specs.Live.{Lives, LivesAs, LivesInObjects};
+ghost use Rattle.program_calls.specs.Live.{Lives};
 ghost use Rattle.cli_words.specs.MonFlags.{signal_in};
 ghost use Rattle.cli_words.specs.Operands.{asked_on, takes};
 ghost use Rattle.program_source.specs.Source.{known_bytes, known_joined};
 
 use crate::fault::ProgramFault;
 use crate::files::{FileFault, read_files};
-use crate::live::{Explainer, LiveEnded, live, live_in_objects};
+use crate::live::{Explainer, form_by, live};
 use crate::perform::perform;
 use crate::progress::ProgressLines;
 use crate::said::{remark, report};
@@ -21,16 +21,14 @@ use crate::status::{USAGE, write_fault};
 use crate::told::Recap;
 use crate::waited::waited_for;
 use cli_command::{Refused, choose};
-use cli_words::{Asked, CommandChoice, CommandLine, FollowReport, is_report, line_of, signal_in};
-use follow_core::LineForm;
-use json_live::Halt;
-use live_dialogue::SessionError;
+use cli_words::{Asked, CommandChoice, CommandLine, FollowChoice, is_report, line_of, signal_in};
 use program_captures::follow_capture;
 use program_input::{limit_of, read_input};
 use program_source::{OpenFault, Opens, source_of};
+use record_core::Form;
 use std::alloc::{AllocError, Global};
 use std::io::Read;
-use text_core::{Buffered, Sink, WriteFault, put_all};
+use text_core::{Buffered, Sink, put_all};
 
 /// How the program ended.
 #[derive(Drop)]
@@ -91,10 +89,8 @@ pub(crate) struct Call<'a> {
 // A capture that is reported as its lines come.
 #[derive(Clone, Copy)]
 struct Followed<'a> {
-    form: LineForm,
+    choice: FollowChoice,
     signal: &'a [u8],
-    margin: u64,
-    report: FollowReport,
 }
 
 /// The name of the wire that some words name, or an empty one.
@@ -156,97 +152,38 @@ impl Call<'_> {
         }
     }
 
-    // Answers the lines of an input as they come, and says how it went. Answers the exit status.
+    // Answers the lines of an input as they come, in lines or in objects, and says how it went. Answers the exit status.
     fn serve_lines<R: Read, W: Sink, E: Sink>(
         self,
+        form: Form,
         input: &mut R,
         out: &mut Buffered<W>,
         err: &mut E,
     ) -> u8
-        ensures { result ≡ 0 → Lives (R.remaining input.old) (⟦<Buffered<W> as Sink>⟧.contents out.old) (W.contents (below out.new)) }
+        ensures { result ≡ 0 → Lives form (R.remaining input.old) (⟦<Buffered<W> as Sink>⟧.contents out.old) (W.contents (below out.new)) }
     {
         let mut explainer = Explainer::new(self.alloc, self.asked.explains, err);
-        match live(self.alloc, input, out, &mut explainer) {
+        match live(self.alloc, form, input, out, &mut explainer) {
             Ok(()) => 0,
             Err(fault) => self.fail_session(&fault, explainer),
         }
     }
 
-    // Says how a session in objects went. Answers the exit status.
-    fn report_objects<E: Sink>(
-        self,
-        done: Result<(), SessionError>,
-        halted: Option<Halt>,
-        explainer: Explainer<'_, E>,
-    ) -> u8
-        ensures { result ≡ 0 → (done ≡ Ok tt) × (halted ≡ None) }
-    {
-        match halted {
-            Some(Halt::Write(count)) => {
-                self.fail(&ProgramFault::Write(WriteFault { count }), explainer.err)
-            }
-            Some(Halt::Memory) => self.fail(&ProgramFault::Memory(AllocError), explainer.err),
-            None => match done {
-                Ok(()) => 0,
-                Err(fault) => self.fail_session(&ProgramFault::from(fault), explainer),
-            },
-        }
-    }
-
-    // Answers the lines of an input as they come.
-    fn serve_in_lines<R: Read, W: Sink, E: Sink>(
-        self,
-        input: &mut R,
-        out: W,
-        err: &mut E,
-    ) -> ProgramEnd<W>
-        ensures { result.status ≡ 0 → Lives (R.remaining input.old) (W.contents out) (W.contents result.out) }
-    {
-        let mut out = Buffered::new(out);
-        let status = self.serve_lines(input, &mut out, err);
-        ProgramEnd {
-            status,
-            out: out.into_below(),
-        }
-    }
-
-    // The same in objects.
-    fn serve_in_objects<R: Read, W: Sink, E: Sink>(
-        self,
-        input: &mut R,
-        out: W,
-        err: &mut E,
-    ) -> ProgramEnd<W>
-        ensures { result.status ≡ 0 → LivesInObjects (R.remaining input.old) (W.contents out) (W.contents result.out) }
-    {
-        let mut explainer = Explainer::new(self.alloc, self.asked.explains, err);
-        let LiveEnded { done, halted, out } = live_in_objects(
-            self.alloc,
-            input,
-            out,
-            &mut explainer,
-        );
-        let status = self.report_objects(done, halted, explainer);
-        ProgramEnd {
-            status,
-            out: out.into_below(),
-        }
-    }
-
-    // In objects or in lines.
+    // Answers the lines of an input as they come, in lines or in objects.
     fn serve_session<R: Read, W: Sink, E: Sink>(
         self,
-        json: bool,
+        form: Form,
         input: &mut R,
         out: W,
         err: &mut E,
     ) -> ProgramEnd<W>
-        ensures { result.status ≡ 0 → LivesAs json (R.remaining input.old) (W.contents out) (W.contents result.out) }
+        ensures { result.status ≡ 0 → Lives form (R.remaining input.old) (W.contents out) (W.contents result.out) }
     {
-        if json {
-            self.serve_in_objects(input, out, err)
-        } else {
-            self.serve_in_lines(input, out, err)
+        let mut out = Buffered::new(out);
+        let status = self.serve_lines(form, input, &mut out, err);
+        ProgramEnd {
+            status,
+            out: out.into_below(),
         }
     }
 
@@ -258,15 +195,10 @@ impl Call<'_> {
         out: &mut Buffered<W>,
         err: &mut E,
     ) -> u8
-        ensures { result ≡ 0 → FollowsTo followed.entry.form followed.entry.signal.now followed.entry.margin followed.entry.report (R.remaining input.old) (⟦<Buffered<W> as Sink>⟧.contents out.old) (W.contents (below out.new)) }
+        ensures { result ≡ 0 → FollowsTo followed.entry.choice followed.entry.signal.now (R.remaining input.old) (⟦<Buffered<W> as Sink>⟧.contents out.old) (W.contents (below out.new)) }
     {
-        let Followed {
-            form,
-            signal,
-            margin,
-            report,
-        } = followed;
-        match follow_capture(self.alloc, form, signal, margin, report, input, out) {
+        let Followed { choice, signal } = followed;
+        match follow_capture(self.alloc, choice, signal, input, out) {
             Ok(()) => 0,
             Err(fault) => self.fail(&ProgramFault::from(fault), err),
         }
@@ -282,7 +214,7 @@ impl Call<'_> {
         out: W,
         err: &mut E,
     ) -> ProgramEnd<W>
-        ensures { result.status ≡ 0 → FollowsTo followed.entry.form followed.entry.signal.now followed.entry.margin followed.entry.report (R.remaining input.old) (W.contents out) (W.contents result.out) }
+        ensures { result.status ≡ 0 → FollowsTo followed.entry.choice followed.entry.signal.now (R.remaining input.old) (W.contents out) (W.contents result.out) }
     {
         let mut out = Buffered::new(out);
         let status = self.follow_lines(followed, input, &mut out, err);
@@ -348,19 +280,10 @@ impl Call<'_> {
         ensures { result.status ≡ 0 → IsServed (R.remaining input.old) (W.contents out) (W.contents result.out) self.entry.asked.choice (name_of (signal_in (map string_bytes self.entry.words.now))) }
     {
         match self.asked.choice {
-            CommandChoice::Live { json } => self.serve_session(json, input, out, err),
-            CommandChoice::Follow {
-                form,
-                margin,
-                report,
-            } => {
+            CommandChoice::Live { json } => self.serve_session(form_by(json), input, out, err),
+            CommandChoice::Follow(choice) => {
                 let signal = signal_of(self.words);
-                let followed = Followed {
-                    form,
-                    signal,
-                    margin,
-                    report,
-                };
+                let followed = Followed { choice, signal };
                 self.serve_capture(followed, input, out, err)
             }
             _ => self.serve_input(input, out, err),

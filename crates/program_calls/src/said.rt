@@ -129,7 +129,9 @@ fn add_help<E: Sink>(text: Result<String, AllocError>, err: &mut E) {
 // Names the lines of a capture before which events were lost.
 fn name_lost_of<E: Sink>(alloc: Global, choice: CommandChoice, input: &[u8], err: &mut E) {
     match choice {
-        CommandChoice::Mon(MonChoice { form, .. }) => name_lost(alloc, form, input, err),
+        CommandChoice::Mon(MonChoice { form, .. }) | CommandChoice::CapturedLine { form, .. } => {
+            name_lost(alloc, form, input, err)
+        }
         CommandChoice::CheckCapture { form, .. }
         | CommandChoice::Json(Objects::CaptureTest { form, .. }) => {
             if let Ok((_, taken)) = capture_parts(input) {

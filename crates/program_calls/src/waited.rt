@@ -18,7 +18,7 @@ pub(crate) fn waited_for(choice: CommandChoice) -> &'static str {
         CommandChoice::Asm | CommandChoice::Dis { .. } | CommandChoice::Lay { .. } => {
             "hdminet: waits for frames on standard input (--help explains them)\n"
         }
-        CommandChoice::Mon(_) | CommandChoice::Follow { .. } => {
+        CommandChoice::Mon(_) | CommandChoice::Follow(_) | CommandChoice::CapturedLine { .. } => {
             "hdminet: waits for a capture on standard input (--help explains it)\n"
         }
         CommandChoice::Edid { .. } => {

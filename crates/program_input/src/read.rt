@@ -20,9 +20,11 @@ const CAPTURE_LIMIT: usize = 67_108_864;
 pub fn limit_of(choice: CommandChoice) -> usize {
     match choice {
         CommandChoice::Mon(MonChoice { form: Some(_), .. })
+        | CommandChoice::CapturedLine { form: Some(_), .. }
         | CommandChoice::CheckCapture { form: Some(_), .. }
         | CommandChoice::Json(Objects::CaptureTest { form: Some(_), .. }) => CAPTURE_LIMIT,
         CommandChoice::Mon(MonChoice { form: None, .. })
+        | CommandChoice::CapturedLine { form: None, .. }
         | CommandChoice::CheckCapture { form: None, .. }
         | CommandChoice::Json(
             Objects::Trace { .. }
@@ -34,7 +36,7 @@ pub fn limit_of(choice: CommandChoice) -> usize {
         | CommandChoice::Check(_)
         | CommandChoice::Step { .. }
         | CommandChoice::Live { .. }
-        | CommandChoice::Follow { .. }
+        | CommandChoice::Follow(_)
         | CommandChoice::Asm
         | CommandChoice::Dis { .. }
         | CommandChoice::Lay { .. }

@@ -13,12 +13,12 @@ abbrev pub NamesDevices : ℕ → Event → Type 0
 NamesDevices count (Plug child parent port) = (child < count) × (parent < count)
 NamesDevices count (Unplug child) = child < count
 NamesDevices count (Key device key press) = device < count
-NamesDevices count (Send device frame) = device < count
-NamesDevices count (SendNamed device names frame) = (device < count) × AreNamed count names
+NamesDevices count (Send device frame ticket) = device < count
+NamesDevices count (SendNamed device names frame ticket) = (device < count) × AreNamed count names
 NamesDevices count (Outside device act) = device < count
 
 -- a frame that is handed in has a block at least
 abbrev pub IsFramedEvent : Event → Type 0
-IsFramedEvent (Send device frame) = 0 < length frame
-IsFramedEvent (SendNamed device names frame) = 0 < length frame
+IsFramedEvent (Send device frame ticket) = 0 < length frame
+IsFramedEvent (SendNamed device names frame ticket) = 0 < length frame
 IsFramedEvent _ = Unit {0}

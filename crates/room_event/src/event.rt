@@ -1,5 +1,5 @@
 //! What happens to the network from outside.
-use device_core::{Act, KeyError, SubmitError};
+use device_core::{Act, KeyError, SubmitError, Ticket};
 use device_features::Key;
 use edid_tree::{PlugError, UnplugError};
 use line_frames::Frame;
@@ -35,6 +35,7 @@ pub enum Event {
     Send {
         device: usize,
         frame: Frame,
+        ticket: Ticket,
     },
     /// A device is given a frame to send in whose header names stand for addresses: for each the first address that the device of
     /// that name holds when the event is applied.
@@ -42,6 +43,7 @@ pub enum Event {
         device: usize,
         names: HeaderNames,
         frame: Frame,
+        ticket: Ticket,
     },
     /// A device from outside is told what it holds, or to drop what it has to send.
     Outside {
@@ -73,18 +75,25 @@ impl Event {
                 key: *key,
                 press: *press,
             },
-            Event::Send { device, frame } => Event::Send {
+            Event::Send {
+                device,
+                frame,
+                ticket,
+            } => Event::Send {
                 device: *device,
                 frame: frame.copy(),
+                ticket: *ticket,
             },
             Event::SendNamed {
                 device,
                 names,
                 frame,
+                ticket,
             } => Event::SendNamed {
                 device: *device,
                 names: *names,
                 frame: frame.copy(),
+                ticket: *ticket,
             },
             Event::Outside { device, act } => Event::Outside {
                 device: *device,

@@ -9,10 +9,11 @@ use Rattle.message_table.specs.declared.message.Decoded.TheVariants.{Known, Poll
 use Rattle.message_table.specs.Table.{decoded_of}
 use Rattle.device_features.specs.declared.record.Heard.{Heard}
 use Rattle.device_features.specs.declared.keys.Key.{Key}
+use Rattle.device_core.specs.declared.device.Ticket.{Ticket}
 use Rattle.device_core.specs.declared.keys.KeyError.{KeyError}
 use Rattle.line_frames.specs.declared.Fate.{Fate}
 use Rattle.line_frames.specs.declared.Fate.TheVariants.{Delivered, Unacked, Lost, Broken}
-use Rattle.line_frames.specs.declared.free_time.FreeTime.TheVariants.{Retry}
+use Rattle.line_frames.specs.declared.free_time.FreeTime.TheVariants.{Retry, NewInitiator}
 use Rattle.device_core.specs.declared.device.Queued.{Queued}
 use Rattle.device_core.specs.declared.device.SubmitError.{SubmitError}
 use Rattle.device_core.specs.State.{State, with_queued, speaks, holds, frame_of, source, one_more}
@@ -27,7 +28,7 @@ use Rattle.device_core.specs.declared.outside.Act.{Act}
 use Rattle.device_core.specs.declared.outside.Act.TheVariants.{Hold, Empty}
 use Rattle.device_core.specs.Outside.{act_fault, after_act, acted_by}
 use Rattle.device_features.specs.Keys.{pressing, releasing}
-use Rattle.device_core.specs.Place.{place_after_fate, polled_at, class_of_poll, after_front, after_failure, front_is_poll, frame_sent, sent_by, after_sending, after_waiting, submit_fault, submitted_by, after_submission, front_by, front_of, ready_by, ready_of}
+use Rattle.device_core.specs.Place.{place_after_fate, polled_at, class_of_poll, after_front, after_failure, after_loss, front_is_counted, front_is_poll, most_again, frame_sent, sent_by, after_sending, after_waiting, submit_fault, submitted_by, after_submission, front_by, front_of, ready_by, ready_of}
 use Rattle.room_net.specs.Step.{followed_unless}
 use Rattle.room_net.specs.Sound.{IsReadyBy}
 use Rattle.room_net.proofs.Ready.{ready-queued, ready-reported}
@@ -66,7 +67,7 @@ two_longer false false d y z h k = k
 
 ahead-queued : (b limit at from to : ℕ) (bytes : List ℕ) (d : State) → at ≤ b → IsAhead b d (with_queued limit at from to bytes d)
 ahead-queued b limit at from to bytes d le =
-    let last : List Queued = record { frame = frame_of from to bytes; ready = at } ∷ [] in
+    let last : List Queued = record { frame = frame_of from to bytes; ready = at; ticket = None } ∷ [] in
     let y : State = record d { queue = d.queue ++ last } in
     let z : State = record d { dropped = one_more d.dropped } in
     record {
@@ -151,11 +152,17 @@ ready-ended b d (x ∷ queue) p q = record { poll = p; queue = λ k y l. q (suc 
 
 ready-failed : (b : ℕ) (d : State) → IsReadyBy b d → IsReadyBy b (after_failure d)
 ready-failed b d h =
-    two_ready b (nat_lt d.attempts 5) (record d { attempts = d.attempts + 1; class = Retry }) (after_front d)
+    two_ready b (nat_lt d.attempts (most_again d.queue)) (record d { attempts = d.attempts + 1; class = Retry }) (after_front d)
     (record { poll = h.poll; queue = h.queue }) (ready-ended b d d.queue h.poll h.queue)
 
+ready-lost : (b : ℕ) (d : State) → IsReadyBy b d → IsReadyBy b (after_loss d)
+ready-lost b d h = two_ready b (front_is_counted d.queue) (after_failure d) d (ready-failed b d h) h
+
 ready-frame_sent : (b : ℕ) (fate : Fate) (d : State) → IsReadyBy b d → IsReadyBy b (frame_sent d fate)
-ready-frame_sent b Lost d h = record { poll = h.poll; queue = h.queue }
+ready-frame_sent b Lost d h = lost (ready-lost b d h)
+  where
+    lost : IsReadyBy b (after_loss d) → IsReadyBy b (record (after_loss d) { class = NewInitiator })
+    lost k = record { poll = k.poll; queue = k.queue }
 ready-frame_sent b Delivered d h = ready-ended b d d.queue h.poll h.queue
 ready-frame_sent b Unacked d h = two_ready b (front_is_poll d.queue) (after_front d) (after_failure d) (ready-ended b d d.queue h.poll h.queue) (ready-failed b d h)
 ready-frame_sent b Broken d h = two_ready b (front_is_poll d.queue) (record d { class = Retry }) (after_failure d) (record { poll = h.poll; queue = h.queue }) (ready-failed b d h)
@@ -171,21 +178,21 @@ ready-sent b limit at fate d le h = ready-sent_by b limit at fate d (polled_at d
 pub ready-waited : (b : ℕ) (d : State) → IsReadyBy b d → IsReadyBy b (after_waiting d)
 ready-waited b d h = record { poll = h.poll; queue = h.queue }
 
-ready-submitted_by : (b at : ℕ) (frame : List ℕ) (d : State) (fault : Option SubmitError) → at ≤ b → IsReadyBy b d → IsReadyBy b (submitted_by d frame at fault)
-ready-submitted_by b at frame d None le h =
+ready-submitted_by : (b at : ℕ) (frame : List ℕ) (ticket : Ticket) (d : State) (fault : Option SubmitError) → at ≤ b → IsReadyBy b d → IsReadyBy b (submitted_by d frame ticket at fault)
+ready-submitted_by b at frame ticket d None le h =
     let Early : Queued → Type 0 = λ q. q.ready ≤ b in
-    record { poll = h.poll; queue = All-append Early d.queue (record { frame = frame; ready = at } ∷ []) h.queue (All-cons Early (record { frame = frame; ready = at }) [] le (All-nil Early)) }
-ready-submitted_by b at frame d (Some fault) le h = h
+    record { poll = h.poll; queue = All-append Early d.queue (record { frame = frame; ready = at; ticket = Some ticket } ∷ []) h.queue (All-cons Early (record { frame = frame; ready = at; ticket = Some ticket }) [] le (All-nil Early)) }
+ready-submitted_by b at frame ticket d (Some fault) le h = h
 
-pub ready-submitted : (b limit at : ℕ) (frame : List ℕ) (d : State) → at ≤ b → IsReadyBy b d → IsReadyBy b (after_submission limit d frame at)
-ready-submitted b limit at frame d le h = ready-submitted_by b at frame d (submit_fault limit d frame) le h
+pub ready-submitted : (b limit at : ℕ) (frame : List ℕ) (ticket : Ticket) (d : State) → at ≤ b → IsReadyBy b d → IsReadyBy b (after_submission limit d frame ticket at)
+ready-submitted b limit at frame ticket d le h = ready-submitted_by b at frame ticket d (submit_fault limit d frame) le h
 
 pub ready-acted : (b : ℕ) (d : State) (act : Act) → IsReadyBy b d → IsReadyBy b (after_act d act)
 ready-acted b d act h = by (act_fault d) act
   where
     by : (fault : Option KeyError) (act : Act) → IsReadyBy b (acted_by d fault act)
     by (Some fault) act = h
-    by None (Hold first second) = record { poll = h.poll; queue = h.queue }
+    by None (Hold first second more) = record { poll = h.poll; queue = h.queue }
     by None Empty = record { poll = h.poll; queue = All-nil (λ (q : Queued). q.ready ≤ b) }
 
 -- a device that sent has its frame still when it is told what became of it

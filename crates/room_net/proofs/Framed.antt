@@ -16,6 +16,7 @@ use Rattle.line_rounds.specs.Contend.{AreFrames}
 use Rattle.line_frames.specs.Blocks.{frame_in}
 use Rattle.device_features.specs.declared.record.Heard.{Heard}
 use Rattle.device_features.specs.declared.keys.Key.{Key}
+use Rattle.device_core.specs.declared.device.Ticket.{Ticket}
 use Rattle.device_core.specs.declared.keys.KeyError.{KeyError}
 use Rattle.line_frames.specs.declared.Fate.{Fate}
 use Rattle.line_frames.specs.declared.Fate.TheVariants.{Delivered, Unacked, Lost, Broken}
@@ -35,7 +36,7 @@ use Rattle.device_core.specs.declared.outside.Act.{Act}
 use Rattle.device_core.specs.declared.outside.Act.TheVariants.{Hold, Empty}
 use Rattle.device_core.specs.Outside.{act_fault, after_act, acted_by}
 use Rattle.device_features.specs.Keys.{pressing, releasing}
-use Rattle.device_core.specs.Place.{is_on_wire, fresh, start_place, with_reports, reported_by, reported_from, after_joining, place_after_fate, polled_at, class_of_poll, after_front, after_failure, front_is_poll, frame_sent, sent_by, submit_fault, submitted_by, after_submission, front_by, front_of}
+use Rattle.device_core.specs.Place.{is_on_wire, fresh, start_place, with_reports, reported_by, reported_from, after_joining, place_after_fate, polled_at, class_of_poll, after_front, after_failure, front_is_counted, front_is_poll, most_again, frame_sent, sent_by, submit_fault, submitted_by, after_submission, front_by, front_of}
 use Rattle.room_event.specs.declared.event.Event.{Event}
 use Rattle.room_event.specs.declared.event.Event.TheVariants.{Plug, Unplug, Key as KeyEvent, Send, SendNamed, Outside}
 use Rattle.room_event.specs.declared.event.EventError.{EventError}
@@ -56,7 +57,7 @@ two false x y h k = k
 
 framed-queued : (limit at from to : ℕ) (bytes : List ℕ) (d : State) → IsFramed d → IsFramed (with_queued limit at from to bytes d)
 framed-queued limit at from to bytes d h =
-    let q : Queued = record { frame = frame_of from to bytes; ready = at } in
+    let q : Queued = record { frame = frame_of from to bytes; ready = at; ticket = None } in
     two (not (speaks d) || holds d.place to) d (if nat_lt (length d.queue) limit then record d { queue = d.queue ++ q ∷ [] } else record d { dropped = one_more d.dropped }) h
     (two (nat_lt (length d.queue) limit) (record d { queue = d.queue ++ q ∷ [] }) (record d { dropped = one_more d.dropped })
     (All-append HasBlock d.queue (q ∷ []) h (All-cons HasBlock q [] (omega arith) (All-nil HasBlock))) h)
@@ -107,15 +108,15 @@ framed-keyed_by limit at key press d None f =
     framed-effected limit (own_doing at) (if press then pressing d.kind d.phys d.record_of key else releasing d.kind d.record_of key) d f
 framed-keyed_by limit at key press d (Some fault) f = f
 
-framed-submitted_by : (at : ℕ) (frame : List ℕ) (d : State) (fault : Option SubmitError) → 0 < length frame → IsFramed d → IsFramed (submitted_by d frame at fault)
-framed-submitted_by at frame d None l f =
-    let q : Queued = record { frame = frame; ready = at } in
+framed-submitted_by : (at : ℕ) (frame : List ℕ) (ticket : Ticket) (d : State) (fault : Option SubmitError) → 0 < length frame → IsFramed d → IsFramed (submitted_by d frame ticket at fault)
+framed-submitted_by at frame ticket d None l f =
+    let q : Queued = record { frame = frame; ready = at; ticket = Some ticket } in
     All-append HasBlock d.queue (q ∷ []) f (All-cons HasBlock q [] l (All-nil HasBlock))
-framed-submitted_by at frame d (Some fault) l f = f
+framed-submitted_by at frame ticket d (Some fault) l f = f
 
 framed-acted_by : (d : State) (fault : Option KeyError) (act : Act) → IsFramed d → IsFramed (acted_by d fault act)
 framed-acted_by d (Some fault) act f = f
-framed-acted_by d None (Hold first second) f = f
+framed-acted_by d None (Hold first second more) f = f
 framed-acted_by d None Empty f = All-nil HasBlock
 
 framed-joined : (limit number at : ℕ) (phys : Phys) (d : State) → IsFramed (after_joining limit d number phys at)
@@ -140,10 +141,10 @@ framed-ended d [] f = All-nil HasBlock
 framed-ended d (q ∷ queue) f = λ k y l. f (suc k) y (omega arith)
 
 framed-failed : (d : State) → IsFramed d → IsFramed (after_failure d)
-framed-failed d f = two (nat_lt d.attempts 5) (record d { attempts = d.attempts + 1; class = Retry }) (after_front d) f (framed-ended d d.queue f)
+framed-failed d f = two (nat_lt d.attempts (most_again d.queue)) (record d { attempts = d.attempts + 1; class = Retry }) (after_front d) f (framed-ended d d.queue f)
 
 framed-frame_sent : (fate : Fate) (d : State) → IsFramed d → IsFramed (frame_sent d fate)
-framed-frame_sent Lost d f = f
+framed-frame_sent Lost d f = two (front_is_counted d.queue) (after_failure d) d (framed-failed d f) f
 framed-frame_sent Delivered d f = framed-ended d d.queue f
 framed-frame_sent Unacked d f = two (front_is_poll d.queue) (after_front d) (after_failure d) (framed-ended d d.queue f) (framed-failed d f)
 framed-frame_sent Broken d f = two (front_is_poll d.queue) (record d { class = Retry }) (after_failure d) f (framed-failed d f)
@@ -204,11 +205,11 @@ named_frame_has_block devices names frame = by (address_for devices names.initia
     by (Some i) None = tt
     by (Some i) (Some d) = omega arith
 
-framed-sent : (at device : ℕ) (frame : Option (List ℕ)) (s : NetState) → HasBlockIfSome frame → AreFramed s → AreFramed (after_sent at device frame s)
+framed-sent : (at device : ℕ) (frame : Option (List ℕ)) (ticket : Ticket) (s : NetState) → HasBlockIfSome frame → AreFramed s → AreFramed (after_sent at device frame ticket s)
 unfolding HasBlockIfSome
-framed-sent at device None s e h = h
-framed-sent at device (Some frame) s e h =
-    framed-changed device (λ d. after_submission 16 d frame at) s.devices (λ d f. framed-submitted_by at frame d (submit_fault 16 d frame) e f) h
+framed-sent at device None ticket s e h = h
+framed-sent at device (Some frame) ticket s e h =
+    framed-changed device (λ d. after_submission 16 d frame ticket at) s.devices (λ d f. framed-submitted_by at frame ticket d (submit_fault 16 d frame) e f) h
 
 framed-applied_unless : (fault : Option EventError) (at : ℕ) (event : Event) (s : NetState) → IsFramedEvent event → AreFramed s → AreFramed (applied_unless fault at event s)
 framed-applied_unless (Some error) at event s e h = h
@@ -216,9 +217,9 @@ framed-applied_unless None at (Plug child parent port) s e h = framed-rewired at
 framed-applied_unless None at (Unplug child) s e h = framed-rewired at _ s.devices h
 framed-applied_unless None at (KeyEvent device key press) s e h =
     framed-changed device (λ d. after_key 16 d key press at) s.devices (λ d f. framed-keyed_by 16 at key press d (key_fault d key) f) h
-framed-applied_unless None at (Send device frame) s e h =
-    framed-changed device (λ d. after_submission 16 d frame at) s.devices (λ d f. framed-submitted_by at frame d (submit_fault 16 d frame) e f) h
-framed-applied_unless None at (SendNamed device names frame) s e h = framed-sent at device (named_frame s.devices names frame) s (named_frame_has_block s.devices names frame) h
+framed-applied_unless None at (Send device frame ticket) s e h =
+    framed-changed device (λ d. after_submission 16 d frame ticket at) s.devices (λ d f. framed-submitted_by at frame ticket d (submit_fault 16 d frame) e f) h
+framed-applied_unless None at (SendNamed device names frame ticket) s e h = framed-sent at device (named_frame s.devices names frame) ticket s (named_frame_has_block s.devices names frame) h
 framed-applied_unless None at (Outside device act) s e h =
     framed-changed device (λ d. after_act d act) s.devices (λ d f. framed-acted_by d (act_fault d) act f) h
 

@@ -1,5 +1,5 @@
 -- No address is held twice.
-use Rattle.std.proofs.Common.{◌≡◌, ℕ, zero, suc, ◌+◌, ◌*◌, ◌%◌, ◌==◌, ◌≤◌, ◌<◌, Bool, true, false, not, ◌&&◌, ◌||◌, nat_lt, is_some, if◌then◌else◌, List, [], ◌∷◌, length, slice_get, slice_index, ◌⊎◌, inl, inr, Option, Some, None, IsSome, refl, sym, ap, ◌∙◌, subst, arith}
+use Rattle.std.proofs.Common.{◌≡◌, ℕ, zero, suc, ◌+◌, ◌*◌, ◌%◌, ◌==◌, ◌≤◌, ◌<◌, Bool, true, false, not, ◌&&◌, ◌||◌, nat_lt, is_some, if◌then◌else◌, List, [], ◌∷◌, ◌++◌, length, slice_get, slice_index, ◌⊎◌, inl, inr, Option, Some, None, IsSome, refl, sym, ap, ◌∙◌, subst, arith}
 use Rattle.std.specs.Prelude.{MatchOption, option_map}
 use Rattle.std.specs.List.{list_any}
 use Rattle.std.proofs.lemmas.Bool.Decides.{nat_tests}
@@ -14,12 +14,13 @@ use Rattle.line_rounds.specs.declared.Outcome.{Outcome}
 use Rattle.line_rounds.specs.Round.{holds_address, IsRound, fate_in, close_in}
 use Rattle.line_rounds.specs.Round as wire
 use Rattle.line_rounds.proofs.Polled.{holders_are_heard}
+use Rattle.device_core.specs.declared.device.Ticket.{Ticket}
 use Rattle.device_core.specs.declared.place.Place.{Place}
 use Rattle.device_core.specs.declared.place.Place.TheVariants.{Off, Polls, Settled}
 use Rattle.line_frames.specs.declared.Fate.{Fate}
 use Rattle.line_frames.specs.declared.Fate.TheVariants.{Unacked}
 use Rattle.device_features.specs.declared.keys.Key.{Key}
-use Rattle.device_core.specs.State.{State, addresses_held, holds, is_held}
+use Rattle.device_core.specs.State.{State, addresses_held, held_by, holds, is_held, more_of}
 use Rattle.device_core.specs.Place.{is_off, is_on_wire, is_allocating, polled_at, front_by, front_of, ready_of, fresh, after_joining, after_leaving, after_submission}
 use Rattle.device_core.specs.Keys.{after_key}
 use Rattle.device_core.specs.declared.outside.Act.{Act}
@@ -118,10 +119,10 @@ keeps-keyed at key press number d =
     keeps-by number d (after_key 16 d key press at) (kinds_stay.keying 16 at key press d) (keeps_place.keying 16 at key press d) (numbers_stay.keying 16 at key press d)
     (λ in_d. keeps_clean.keying 16 at key press d)
 
-pub keeps-submitted : (at : ℕ) (frame : List ℕ) (number : ℕ) (d : State) → Keeps number d (after_submission 16 d frame at)
-keeps-submitted at frame number d =
-    keeps-by number d (after_submission 16 d frame at) (kinds_stay.submitting 16 at frame d) (keeps_place.submitting 16 at frame d) (numbers_stay.submitting 16 at frame d)
-    (keeps_clean.submitting 16 at frame d)
+pub keeps-submitted : (at : ℕ) (frame : List ℕ) (ticket : Ticket) (number : ℕ) (d : State) → Keeps number d (after_submission 16 d frame ticket at)
+keeps-submitted at frame ticket number d =
+    keeps-by number d (after_submission 16 d frame ticket at) (kinds_stay.submitting 16 at frame ticket d) (keeps_place.submitting 16 at frame ticket d) (numbers_stay.submitting 16 at frame ticket d)
+    (keeps_clean.submitting 16 at frame ticket d)
 
 pub keeps-acted : (act : Act) (number : ℕ) (d : State) → Keeps number d (after_act d act)
 keeps-acted act number d = record {
@@ -234,17 +235,17 @@ orderly-started tree few = orderly-rewired 0 tree (loose tree) (orderly-loose tr
 
 -- ---- events
 
-orderly-sent : (at device : ℕ) (frame : Option (List ℕ)) (s : NetState) → AreOrderly s.devices → AreOrderly (after_sent at device frame s).devices
-orderly-sent at device None s o = o
-orderly-sent at device (Some frame) s o = orderly-changed device (λ d. after_submission 16 d frame at) s.devices (λ i d. keeps-submitted at frame i d) o
+orderly-sent : (at device : ℕ) (frame : Option (List ℕ)) (ticket : Ticket) (s : NetState) → AreOrderly s.devices → AreOrderly (after_sent at device frame ticket s).devices
+orderly-sent at device None ticket s o = o
+orderly-sent at device (Some frame) ticket s o = orderly-changed device (λ d. after_submission 16 d frame ticket at) s.devices (λ i d. keeps-submitted at frame ticket i d) o
 
 orderly-applied : (at : ℕ) (event : Event) (s : NetState) (fault : Option EventError) → AreOrderly s.devices → AreOrderly (applied_unless fault at event s).devices
 orderly-applied at event s (Some fault) o = o
 orderly-applied at (Plug child parent port) s None o = orderly-rewired at (tree_with_plug s.tree child parent port) s.devices o
 orderly-applied at (Unplug child) s None o = orderly-rewired at (tree_without_plug s.tree child) s.devices o
 orderly-applied at (Press device key press) s None o = orderly-changed device (λ d. after_key 16 d key press at) s.devices (λ i d. keeps-keyed at key press i d) o
-orderly-applied at (Send device frame) s None o = orderly-sent at device (Some frame) s o
-orderly-applied at (SendNamed device names frame) s None o = orderly-sent at device (named_frame s.devices names frame) s o
+orderly-applied at (Send device frame ticket) s None o = orderly-sent at device (Some frame) ticket s o
+orderly-applied at (SendNamed device names frame ticket) s None o = orderly-sent at device (named_frame s.devices names frame) ticket s o
 orderly-applied at (Outside device act) s None o = orderly-changed device (λ d. after_act d act) s.devices (λ i d. keeps-acted act i d) o
 
 -- ---- a round: what a device sends
@@ -344,10 +345,20 @@ seat_units (u ∷ units) a n e h =
     late true c k = refl
     late false c k = k
 
-seat_holds : (p : Place) (a : ℕ) → holds p a ≡ true → wire.is_held (addresses_held p) ((a * 16 + a) % 16) ≡ true
-seat_holds p a h =
-    let low : a < 15 = below_15 p a h in
-    let e : (a * 16 + a) % 16 ≡ a = omega arith in seat_units (addresses_held p) a ((a * 16 + a) % 16) e h
+-- some of these, or of more
+any_longer : (test : Option ℕ → Bool) (units more : List (Option ℕ)) → list_any test units ≡ true → list_any test (units ++ more) ≡ true
+any_longer test [] more h = cc
+any_longer test (u ∷ units) more h = by (test u) (any_longer test units more) h
+  where
+    by : (b : Bool) → (list_any test units ≡ true → list_any test (units ++ more) ≡ true) → (b || list_any test units) ≡ true → (b || list_any test (units ++ more)) ≡ true
+    by true later k = refl
+    by false later k = later k
+
+seat_holds : (d : State) (a : ℕ) → holds d.place a ≡ true → wire.is_held (held_by d) ((a * 16 + a) % 16) ≡ true
+seat_holds d a h =
+    let low : a < 15 = below_15 d.place a h in
+    let e : (a * 16 + a) % 16 ≡ a = omega arith in
+    any_longer (λ held. holds_address held ((a * 16 + a) % 16)) (addresses_held d.place) (more_of (is_outside d.kind) d.place d.more) (seat_units (addresses_held d.place) a ((a * 16 + a) % 16) e h)
 
 -- who holds an address answers
 one_address : (units : List (Option ℕ)) (a : ℕ) → list_any (λ u. is_held u a) units ≡ true → list_any is_address units ≡ true
@@ -366,7 +377,7 @@ one_address (Some b ∷ units) a h = by_test (is_held (Some b) a) refl (λ k. on
 
 holder_answers : (rest begin : ℕ) (d : State) (a : ℕ) → is_on_wire d ≡ true → holds d.place a ≡ true → answers rest begin d ≡ true
 holder_answers rest begin d a on h =
-    let one : holds_one d ≡ true = one_address (addresses_held d.place) a h in
+    let one : holds_one d ≡ true = any_longer is_address (addresses_held d.place) (more_of (is_outside d.kind) d.place d.more) (one_address (addresses_held d.place) a h) in
     rw (on, one) (by_kind (is_outside d.kind))
   where
     by_kind : (b : Bool) → (not b || (true || contends rest begin d)) ≡ true
@@ -389,7 +400,7 @@ unheard s begin o round i j a d e at_i at_j sends polls un holding =
     let low : a < 15 = below_15 e.place a holding in
     let heard = holders_are_heard (seats_of s begin) begin s.pulses o round i j (a * 16 + a) (seat_of s.rest begin d) (seat_of s.rest begin e)
     (seat_at s begin i d at_i) own un (seat_at s begin j e at_j)
-    (holder_answers s.rest begin e a (on_wire e.place a holding) holding) (seat_holds e.place a holding) in
+    (holder_answers s.rest begin e a (on_wire e.place a holding) holding) (seat_holds e a holding) in
     let same : (a * 16 + a) % 16 ≡ a = omega arith in
     (heard.0, (heard.1.0, heard.1.1 ∙ same))
 

@@ -23,11 +23,11 @@ ready-later b c d le h = record { poll = omega (arith, h.poll); queue = λ k q l
 
 pub ready-queued : (b limit at from to : ℕ) (bytes : List ℕ) (d : State) → at ≤ b → IsReadyBy b d → IsReadyBy b (with_queued limit at from to bytes d)
 ready-queued b limit at from to bytes d le h =
-    let last : List Queued = record { frame = frame_of from to bytes; ready = at } ∷ [] in
+    let last : List Queued = record { frame = frame_of from to bytes; ready = at; ticket = None } ∷ [] in
     let Early : Queued → Type 0 = λ q. q.ready ≤ b in
     either_ready b (not (speaks d) || holds d.place to) (nat_lt (length d.queue) limit) d
     (record d { queue = d.queue ++ last }) (record d { dropped = one_more d.dropped }) h
-    (record { poll = h.poll; queue = All-append Early d.queue last h.queue (All-cons Early (record { frame = frame_of from to bytes; ready = at }) [] le (All-nil Early)) })
+    (record { poll = h.poll; queue = All-append Early d.queue last h.queue (All-cons Early (record { frame = frame_of from to bytes; ready = at; ticket = None }) [] le (All-nil Early)) })
     (record { poll = h.poll; queue = h.queue })
 
 ready-reported_from : (b limit at : ℕ) (unit : Option ℕ) (d : State) → at ≤ b → IsReadyBy b d → IsReadyBy b (reported_from limit at unit d)

@@ -1,9 +1,10 @@
 -- What an event does (own).
 use Rattle.std.specs.Prelude.{ℕ, suc, zero, ◌/◌, ◌%◌, nat_lt, if◌then◌else◌, List, [], ◌∷◌, drop, slice_get, slice_index, Option, Some, None, option_and_then, option_map}
 use Rattle.edid_tree.specs.Tree.{plug_fault, tree_with_plug, unplug_fault, tree_without_plug}
-use Rattle.device_core.specs.State.{State, addresses_held, frame_of}
+use Rattle.device_core.specs.State.{State, held_by, frame_of}
 use Rattle.device_core.specs.Place.{is_off, submit_fault, after_submission}
 use Rattle.device_core.specs.declared.device.SubmitError.{SubmitError}
+use Rattle.device_core.specs.declared.device.Ticket.{Ticket}
 use Rattle.device_core.specs.declared.device.SubmitError.TheVariants.{NoAddress, OffWire}
 use Rattle.device_core.specs.Keys.{key_fault, after_key}
 use Rattle.device_core.specs.Outside.{act_fault, after_act}
@@ -16,7 +17,7 @@ use Rattle.room_net.specs.State.{NetState, with_tree}
 
 -- ---- names in a header block
 
--- the first address of these units: 15 is none (CEC 10.2)
+-- the first of these addresses: 15 is none (CEC 10.2)
 abbrev pub first_of : List (Option ℕ) → Option ℕ
 first_of [] = None
 first_of (None ∷ units) = first_of units
@@ -24,7 +25,7 @@ first_of (Some a ∷ units) = if nat_lt a 15 then Some a else first_of units
 
 -- the first address that the device of this number holds
 abbrev pub held_first : List State → ℕ → Option ℕ
-held_first devices number = option_and_then (λ d. first_of (addresses_held d.place)) (slice_get devices number)
+held_first devices number = option_and_then (λ d. first_of (held_by d)) (slice_get devices number)
 
 -- the address that stands for a name; where there is none, the frame's own
 abbrev pub address_for : List State → Option ℕ → ℕ → Option ℕ
@@ -54,8 +55,8 @@ abbrev pub event_fault : NetState → Event → Option EventError
 event_fault s (Plug child parent port) = option_map refused.Plug (plug_fault s.tree child parent port)
 event_fault s (Unplug child) = option_map refused.Unplug (unplug_fault s.tree child)
 event_fault s (Key device key press) = option_map refused.Key (option_and_then (λ d. key_fault d key) (slice_get s.devices device))
-event_fault s (Send device frame) = option_map refused.Send (send_fault s.devices device (Some frame))
-event_fault s (SendNamed device names frame) = option_map refused.Send (send_fault s.devices device (named_frame s.devices names frame))
+event_fault s (Send device frame ticket) = option_map refused.Send (send_fault s.devices device (Some frame))
+event_fault s (SendNamed device names frame ticket) = option_map refused.Send (send_fault s.devices device (named_frame s.devices names frame))
 event_fault s (Outside device act) = option_map refused.Key (option_and_then (λ d. act_fault d) (slice_get s.devices device))
 
 -- the device of this number changed
@@ -64,18 +65,18 @@ changed_at number change [] = []
 changed_at zero change (d ∷ devices) = change d ∷ devices
 changed_at (suc number) change (d ∷ devices) = d ∷ changed_at number change devices
 
--- the network after a frame that is taken
-abbrev pub after_sent : ℕ → ℕ → Option (List ℕ) → NetState → NetState
-after_sent at device (Some frame) s = record s { devices = changed_at device (λ d. after_submission 16 d frame at) s.devices }
-after_sent at device None s = s
+-- the network after a frame that is taken, with what is said of it
+abbrev pub after_sent : ℕ → ℕ → Option (List ℕ) → Ticket → NetState → NetState
+after_sent at device (Some frame) ticket s = record s { devices = changed_at device (λ d. after_submission 16 d frame ticket at) s.devices }
+after_sent at device None ticket s = s
 
 -- the network after an event that is not refused
 abbrev pub after_accepted : ℕ → Event → NetState → NetState
 after_accepted at (Plug child parent port) s = with_tree at (tree_with_plug s.tree child parent port) s
 after_accepted at (Unplug child) s = with_tree at (tree_without_plug s.tree child) s
 after_accepted at (Key device key press) s = record s { devices = changed_at device (λ d. after_key 16 d key press at) s.devices }
-after_accepted at (Send device frame) s = after_sent at device (Some frame) s
-after_accepted at (SendNamed device names frame) s = after_sent at device (named_frame s.devices names frame) s
+after_accepted at (Send device frame ticket) s = after_sent at device (Some frame) ticket s
+after_accepted at (SendNamed device names frame ticket) s = after_sent at device (named_frame s.devices names frame) ticket s
 after_accepted at (Outside device act) s = record s { devices = changed_at device (λ d. after_act d act) s.devices }
 
 -- A round that was begun is given up by an event; one that is refused changes nothing.

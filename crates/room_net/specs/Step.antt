@@ -9,7 +9,7 @@ use Rattle.line_rounds.specs.OneOutcome.{SameOutcome}
 use Rattle.line_wave.specs.Line.{IsWave}
 use Rattle.line_frames.specs.declared.Fate.{Fate}
 use Rattle.device_features.specs.Kinds.{is_outside}
-use Rattle.device_core.specs.State.{State, addresses_held}
+use Rattle.device_core.specs.State.{State, held_by}
 use Rattle.device_core.specs.Place.{front_of, is_on_wire, after_sending, after_waiting}
 use Rattle.device_core.specs.Effects.{after_frame}
 use Rattle.room_net.specs.Start.{contends}
@@ -26,9 +26,9 @@ abbrev pub is_address : Option ℕ → Bool
 is_address None = false
 is_address (Some address) = nat_lt address 15
 
--- one of its units holds an address
+-- it holds an address
 abbrev pub holds_one : State → Bool
-holds_one d = list_any is_address (addresses_held d.place)
+holds_one d = list_any is_address (held_by d)
 
 -- A device on the wire acknowledges (CEC 6.1) and pulls low after a fall too early (CEC 7.4), but for one from outside that
 -- holds no address and does not contend: what its firmware answers, pulls say (own).
@@ -36,7 +36,7 @@ abbrev pub answers : ℕ → ℕ → State → Bool
 answers rest begin d = is_on_wire d && (not (is_outside d.kind) || (holds_one d || contends rest begin d))
 
 abbrev pub seat_of : ℕ → ℕ → State → Seat
-seat_of rest begin d = record { plugged = answers rest begin d; holds = addresses_held d.place; sends = sent_in rest begin d }
+seat_of rest begin d = record { plugged = answers rest begin d; holds = held_by d; sends = sent_in rest begin d }
 
 abbrev pub seats_of : NetState → ℕ → List Seat
 seats_of s begin = map (seat_of s.rest begin) s.devices

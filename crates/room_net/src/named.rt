@@ -1,6 +1,6 @@
 //! Names in the header block of a frame that is handed in.
-ghost use Rattle.std.specs.Prelude.{◌≡◌, ◌<◌, [], ◌∷◌, length, IfSome};
-ghost use Rattle.device_core.specs.State.{addresses_held};
+ghost use Rattle.std.specs.Prelude.{◌≡◌, ◌<◌, length, IfSome};
+ghost use Rattle.device_core.specs.State.{held_by};
 ghost use Rattle.room_event.specs.Events.{AreNamed};
 ghost use Rattle.room_net.specs.Apply.{first_of, address_for, named_frame, nameless};
 
@@ -8,24 +8,23 @@ use device_core::{Device, SubmitError, frame_of};
 use line_frames::{Addr, Frame};
 use room_event::HeaderNames;
 
-// The first address below 15 of two units.
-fn first_of(first: Option<Addr>, second: Option<Addr>) -> Option<Addr>
-    ensures { result ≡ first_of (first ∷ second ∷ []) }
+// The first address below 15.
+fn first_of(held: &[Option<Addr>]) -> Option<Addr>
+    ensures { result ≡ first_of held.now }
 {
+    let [first, others @ ..] = held else {
+        return None;
+    };
     match first {
-        Some(address) if address.value() < Addr::BROADCAST => first,
-        _ => match second {
-            Some(address) if address.value() < Addr::BROADCAST => second,
-            _ => None,
-        },
+        Some(address) if address.value() < Addr::BROADCAST => *first,
+        _ => first_of(others),
     }
 }
 
 fn held_first(device: &Device<16>) -> Option<Addr>
-    ensures { result ≡ first_of (addresses_held device.now.place) }
+    ensures { result ≡ first_of (held_by device.now) }
 {
-    let [first, second] = device.held();
-    first_of(first, second)
+    first_of(&device.all_held())
 }
 
 // The address that stands for a name, the first one that its device holds. Where there is no name, the frame's own.

@@ -7,7 +7,7 @@ use crate::start::{first_onset, least_start, sooner};
 use crate::step::{RoundReport, end_round, seats_of};
 use crate::wiring::{DEVICES, act_on, loose, press_key, rewire, submit_frame};
 use arrayvec::ArrayVec;
-use device_core::{Act, Device, Key, KeyError, SubmitError};
+use device_core::{Act, Device, Key, KeyError, SubmitError, Ticket};
 use edid_tree::{PlugError, Tree, UnplugError};
 use line_frames::Frame;
 use line_rounds::{Outcome, Seat, Wire};
@@ -107,6 +107,13 @@ impl<W> Net<W> {
         &self.devices
     }
 
+    /// Each device of the tree has its state, and no other has. No effect at run time: a proof reads it.
+    pub fn has_each_device(&self)
+        ensures { length self.now.devices ≡ length self.now.tree }
+    {
+        let _devices = &self.devices;
+    }
+
     // No logical address below 15 is held twice, by two devices that are not from outside or by one, wherever a run stands.
     fn addresses_are_held_once(&self)
         ensures { HeldOnce self.now.devices }
@@ -178,16 +185,22 @@ impl<W> Net<W> {
         press_key(&mut self.devices, device, key, press, at)
     }
 
-    fn send(&mut self, at: u64, device: usize, frame: Frame) -> Result<(), SubmitError>
+    fn send(
+        &mut self,
+        at: u64,
+        device: usize,
+        frame: Frame,
+        ticket: Ticket,
+    ) -> Result<(), SubmitError>
         requires idle { self.old.heard ≡ None }
         requires early { at ≤ latest_instant }
         requires known { device < length self.old.tree }
         ensures { MatchResult result
             (λ _. (option_and_then (λ d. submit_fault 16 d frame) (slice_get self.old.devices device) ≡ None)
-            × (self.new ≡ record self.old { devices = changed_at device (λ d. after_submission 16 d frame at) self.old.devices }))
+            × (self.new ≡ record self.old { devices = changed_at device (λ d. after_submission 16 d frame ticket at) self.old.devices }))
             (λ error. (option_and_then (λ d. submit_fault 16 d frame) (slice_get self.old.devices device) ≡ Some error) × (self.new ≡ self.old)) }
     {
-        submit_frame(&mut self.devices, device, frame, at)
+        submit_frame(&mut self.devices, device, frame, ticket, at)
     }
 
     fn send_named(
@@ -196,17 +209,18 @@ impl<W> Net<W> {
         device: usize,
         names: HeaderNames,
         frame: &Frame,
+        ticket: Ticket,
     ) -> Result<(), SubmitError>
         requires idle { self.old.heard ≡ None }
         requires early { at ≤ latest_instant }
         requires known { (device < length self.old.tree) × AreNamed (length self.old.tree) names }
         ensures { MatchResult result
             (λ _. (send_fault self.old.devices device (named_frame self.old.devices names frame.now) ≡ None)
-            × (self.new ≡ after_sent at device (named_frame self.old.devices names frame.now) self.old))
+            × (self.new ≡ after_sent at device (named_frame self.old.devices names frame.now) ticket self.old))
             (λ error. (send_fault self.old.devices device (named_frame self.old.devices names frame.now) ≡ Some error) × (self.new ≡ self.old)) }
     {
         match named_frame(&self.devices, names, frame) {
-            Some(frame) => self.send(at, device, frame),
+            Some(frame) => self.send(at, device, frame, ticket),
             None => Err(nameless(&self.devices[device])),
         }
     }
@@ -238,12 +252,17 @@ impl<W> Net<W> {
             } => self.plug(at, child, parent, port)?,
             Event::Unplug { child } => self.unplug(at, child)?,
             Event::Key { device, key, press } => self.key(at, device, key, press)?,
-            Event::Send { device, frame } => self.send(at, device, frame)?,
+            Event::Send {
+                device,
+                frame,
+                ticket,
+            } => self.send(at, device, frame, ticket)?,
             Event::SendNamed {
                 device,
                 names,
                 frame,
-            } => self.send_named(at, device, names, &frame)?,
+                ticket,
+            } => self.send_named(at, device, names, &frame, ticket)?,
             Event::Outside { device, act } => self.act(device, act)?,
         }
         Ok(())

@@ -46,7 +46,7 @@ fn is_address(held: &Option<Addr>) -> bool
 fn holds_one(device: &Device<16>) -> bool
     ensures { result ≡ holds_one device.now }
 {
-    device.held().iter().any(|held| is_address(held))
+    device.all_held().iter().any(|held| is_address(held))
 }
 
 // Whether a device answers what it hears, where it contends or not. One from outside that holds no address and does not
@@ -66,7 +66,7 @@ fn seat_of(device: &Device<16>, rest: u64, begin: u64) -> Seat
     let sends = if contends { device.queue_front() } else { None };
     Seat {
         plugged: answers(device, contends),
-        holds: device.held(),
+        holds: device.all_held(),
         sends,
     }
 }

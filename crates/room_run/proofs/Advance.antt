@@ -72,6 +72,12 @@ left_in_order rest ps h = wave_filter (λ (q : Stretch). nat_lt rest q.from) ps 
 pub smaller : (events old new : ℕ) → old < new → old < latest_event → events + (latest_instant - new) < events + (latest_instant - old)
 smaller events old new sooner before = omega arith
 
+-- one event less is left
+pub fewer : {X : Type 0} (event : X) (others events : List X) (old new : ℕ) → events ≡ event ∷ others → new ≡ old → length others + (latest_instant - new) < length events + (latest_instant - old)
+fewer event others events old new split same =
+    let left : length events ≡ suc (length others) = ap length split in
+    omega (arith, left, same)
+
 -- ---- counts
 
 pub rounds_kept : EventsKeepRounds

@@ -1,5 +1,6 @@
 -- Why turns that are over before an instant stand, whatever comes for that instant or later.
-use Rattle.std.proofs.Common.{◌≡◌, ℕ, zero, suc, ◌+◌, ◌-◌, ◌<◌, ◌≤◌, Bool, true, false, ◌&&◌, ◌||◌, nat_lt, nat_le, if◌then◌else◌, max, min, List, [], ◌∷◌, ◌++◌, filter, slice_index_or, inl, inr, Option, Some, None, refl, sym, ap, ap₂, ◌∙◌, subst, arith, append_assoc}
+use Rattle.std.proofs.Common.{◌≡◌, ℕ, zero, suc, ◌-◌, ◌<◌, ◌≤◌, Bool, true, false, ◌&&◌, ◌||◌, nat_lt, nat_le, if◌then◌else◌, max, min, List, [], ◌∷◌, ◌++◌, filter, slice_index_or, inl, inr, Option, Some, None, refl, sym, ap, ap₂, ◌∙◌, subst, arith, append_assoc}
+use Rattle.device_core.specs.declared.device.Ticket.{Ticket}
 use Rattle.std.specs.List.{All, list_any}
 use Rattle.std.proofs.lemmas.Bool.Decides.{nat_tests}
 use Rattle.std.proofs.lemmas.Bool.{cases_lt}
@@ -216,14 +217,14 @@ fault_same : (later : List Stretch) (s : NetState) (event : Event) → event_fau
 fault_same later s (Plug child parent port) = refl
 fault_same later s (Unplug child) = refl
 fault_same later s (Key device key press) = refl
-fault_same later s (Send device frame) = refl
-fault_same later s (SendNamed device names frame) = refl
+fault_same later s (Send device frame ticket) = refl
+fault_same later s (SendNamed device names frame ticket) = refl
 fault_same later s (Outside device act) = refl
 
-sent_same : (later : List Stretch) (at device : ℕ) (frame : Option (List ℕ)) (s : NetState)
-    → record (after_sent at device frame (with_pulses later s)) { heard = None } ≡ with_pulses later (record (after_sent at device frame s) { heard = None })
-sent_same later at device None s = refl
-sent_same later at device (Some frame) s = refl
+sent_same : (later : List Stretch) (at device : ℕ) (frame : Option (List ℕ)) (ticket : Ticket) (s : NetState)
+    → record (after_sent at device frame ticket (with_pulses later s)) { heard = None } ≡ with_pulses later (record (after_sent at device frame ticket s) { heard = None })
+sent_same later at device None ticket s = refl
+sent_same later at device (Some frame) ticket s = refl
 
 unless_same : (later : List Stretch) (fault : Option EventError) (at : ℕ) (event : Event) (s : NetState)
     → applied_unless fault at event (with_pulses later s) ≡ with_pulses later (applied_unless fault at event s)
@@ -231,8 +232,8 @@ unless_same later (Some error) at event s = refl
 unless_same later None at (Plug child parent port) s = refl
 unless_same later None at (Unplug child) s = refl
 unless_same later None at (Key device key press) s = refl
-unless_same later None at (Send device frame) s = refl
-unless_same later None at (SendNamed device names frame) s = sent_same later at device (named_frame s.devices names frame) s
+unless_same later None at (Send device frame ticket) s = refl
+unless_same later None at (SendNamed device names frame ticket) s = sent_same later at device (named_frame s.devices names frame) ticket s
 unless_same later None at (Outside device act) s = refl
 
 applied_same : (later : List Stretch) (at : ℕ) (event : Event) (s : NetState) → net_after at event (with_pulses later s) ≡ with_pulses later (net_after at event s)

@@ -13,7 +13,7 @@ use Rattle.room_trace.specs.Records.{round_text}
 use Rattle.room_trace.specs.TraceText.{comma_list, name_at, round_line}
 use Rattle.std.proofs.Common.{map, zero, suc, ap, sym, ◌≡◌, ℕ, ◌+◌, ◌==◌, ◌&&◌, ◌||◌, Bool, true, false, not, nat_lt, if◌then◌else◌, List, [], ◌∷◌, ◌++◌, length, Option, Some, None, refl, ap₂, ◌∙◌, ◌%◌}
 use Rattle.device_core.specs.State.{State, frame_of, addresses_held, holds, one_more, with_queued, speaks, source}
-use Rattle.device_core.specs.Place.{is_on_wire, reported_by, reported_from, class_of_poll, after_front, after_failure, frame_sent, front_is_poll, polled_at, sent_by, place_after_fate}
+use Rattle.device_core.specs.Place.{is_on_wire, reported_by, reported_from, class_of_poll, after_front, after_failure, frame_sent, front_is_counted, front_is_poll, most_again, polled_at, sent_by, place_after_fate}
 use Rattle.device_features.specs.Kinds.{is_switch, type_of}
 use Rattle.room_net.specs.State.{each_from, NetState}
 use Rattle.message_table.specs.Words.{reason_byte}
@@ -47,8 +47,8 @@ two false x y name h k = k
 pub name-queued : (limit at from to : ℕ) (bytes : List ℕ) (d : State) → (with_queued limit at from to bytes d).name ≡ d.name
 name-queued limit at from to bytes d =
     two (not (speaks d) || holds d.place to) d
-    (if nat_lt (length d.queue) limit then record d { queue = d.queue ++ record { frame = frame_of from to bytes; ready = at } ∷ [] } else record d { dropped = one_more d.dropped }) d.name refl
-    (two (nat_lt (length d.queue) limit) (record d { queue = d.queue ++ record { frame = frame_of from to bytes; ready = at } ∷ [] }) (record d { dropped = one_more d.dropped }) d.name refl refl)
+    (if nat_lt (length d.queue) limit then record d { queue = d.queue ++ record { frame = frame_of from to bytes; ready = at; ticket = None } ∷ [] } else record d { dropped = one_more d.dropped }) d.name refl
+    (two (nat_lt (length d.queue) limit) (record d { queue = d.queue ++ record { frame = frame_of from to bytes; ready = at; ticket = None } ∷ [] }) (record d { dropped = one_more d.dropped }) d.name refl refl)
 
 name-reported_from : (limit at : ℕ) (unit : Option ℕ) (d : State) → (reported_from limit at unit d).name ≡ d.name
 name-reported_from limit at None d = refl
@@ -91,10 +91,10 @@ name-followed limit at (header ∷ opcode ∷ operands) d =
 -- ---- fates
 
 name-failed : (d : State) → (after_failure d).name ≡ d.name
-name-failed d = two (nat_lt d.attempts 5) (record d { attempts = d.attempts + 1; class = Retry }) (after_front d) d.name refl refl
+name-failed d = two (nat_lt d.attempts (most_again d.queue)) (record d { attempts = d.attempts + 1; class = Retry }) (after_front d) d.name refl refl
 
 name-frame_sent : (fate : Fate) (d : State) → (frame_sent d fate).name ≡ d.name
-name-frame_sent Lost d = refl
+name-frame_sent Lost d = two (front_is_counted d.queue) (after_failure d) d d.name (name-failed d) refl
 name-frame_sent Delivered d = refl
 name-frame_sent Unacked d = two (front_is_poll d.queue) (after_front d) (after_failure d) d.name refl (name-failed d)
 name-frame_sent Broken d = two (front_is_poll d.queue) (record d { class = Retry }) (after_failure d) d.name refl (name-failed d)

@@ -1,5 +1,5 @@
 -- The objects of a trace are those of its lines.
-use Rattle.std.proofs.Common.{◌≡◌, ℕ, zero, suc, Bool, true, false, not, ◌&&◌, if◌then◌else◌, List, [], ◌∷◌, ◌++◌, codes, Option, None, Some, refl, sym, ap, ap₂, subst, append-nil, append_assoc, ◌∙◌}
+use Rattle.std.proofs.Common.{◌≡◌, ℕ, zero, suc, Bool, true, false, not, ◌&&◌, if◌then◌else◌, List, [], ◌∷◌, ◌++◌, codes, Option, None, Some, refl, sym, ap₂, subst, append-nil, append_assoc, ◌∙◌}
 use Rattle.std.proofs.lemmas.Grind.{flat_map-append}
 use Rattle.std.specs.List.{flat_map, range_with_len}
 use Rattle.line_rounds.specs.declared.Outcome.{Outcome}
@@ -25,7 +25,7 @@ use Rattle.room_run.specs.declared.run.Totals.{Totals}
 use Rattle.room_run.specs.declared.run.Turn.{Turn}
 use Rattle.room_run.specs.declared.run.Turn.TheVariants.{Apply, Round, Stop}
 use Rattle.room_run.specs.Objects.{AreOfRecords, ObjectsAreOfTheTrace}
-use Rattle.room_run.specs.Run.{Config, IsEventTurn, IsRoundTurn, IsRunText, IsRunTextFrom, IsTurn, IsTurnBy, Leads, end_reported, event_objects, event_text, start_reported, turn_at}
+use Rattle.room_run.specs.Run.{Config, IsEventTurn, IsRoundTurn, IsRunText, IsRunTextFrom, IsTurnBy, Leads, end_reported, event_objects, event_text, start_reported, turn_at}
 
 -- ---- texts of the same records
 

@@ -1,11 +1,10 @@
 -- A run on its way: what happened so far, and what was heard of it.
-use Rattle.std.proofs.Common.{◌≡◌, ℕ, ◌<◌, List, [], ◌∷◌, ◌++◌, refl, sym, subst}
+use Rattle.std.proofs.Common.{ℕ, List, [], ◌∷◌, ◌++◌, refl, sym, subst}
 use Rattle.capture_forms.specs.declared.form.CaptureForm.TheVariants.{Edges}
 use Rattle.room_net.specs.Apply.{net_after, event_fault}
 use Rattle.room_run.specs.declared.run.Reporting.TheVariants.{Line}
-use Rattle.room_run.specs.declared.run.Turn.TheVariants.{Apply, Round}
 use Rattle.room_run.specs.Turns.{EventTurns, EventsHappen, RoundTurns, RoundsBringOn, RoundsHappen}
-use Rattle.room_run.specs.Run.{Config, counted_event, event_reported, round_reported, IsTurn, IsTurnBy}
+use Rattle.room_run.specs.Run.{Config, counted_event, event_reported, round_reported, IsTurnBy}
 use Rattle.room_run.proofs.Advance.{round_brings}
 use Rattle.room_run.specs.Happening.{Happening, OfEvent, OfRound, Happens, HappensBy, Goes}
 use Rattle.room_run.specs.Heard.{Hears}

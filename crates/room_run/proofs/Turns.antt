@@ -1,7 +1,5 @@
 -- A run writes one text: each turn leads to one place and reports one text.
 use Rattle.std.proofs.Common.{◌≡◌, ℕ, zero, suc, List, [], ◌∷◌, ◌++◌, ap, ap₂, ◌∙◌, sym, refl, subst, append_assoc, append-nil}
-use Rattle.line_rounds.specs.declared.Outcome.{Outcome}
-use Rattle.line_rounds.specs.OneOutcome.{SameOutcome}
 use Rattle.line_rounds.proofs.OneOutcome.{one_outcome}
 use Rattle.room_net.specs.State.{NetState}
 use Rattle.room_net.specs.Step.{after_round, seats_of}

@@ -21,9 +21,8 @@ use Rattle.capture_forms.specs.declared.form.CaptureForm.{CaptureForm}
 use Rattle.room_run.specs.declared.run.Totals.{Totals}
 use Rattle.room_run.specs.declared.run.Reporting.{Reporting}
 use Rattle.room_run.specs.declared.run.Reporting.TheVariants.{Line, Objects, Trace}
-use Rattle.room_run.specs.declared.run.Turn.{Turn}
 use Rattle.room_run.specs.declared.run.Turn.TheVariants.{Stop, Apply, Round}
-use Rattle.room_run.specs.Turns.{IsTold, RunsAreTold, SaysOf, TracesSay}
+use Rattle.room_run.specs.Turns.{IsTold, ObjectsSay, RunsAreTold, SaysOf, TracesSay}
 use Rattle.room_run.specs.Run.{Config, turn_at, start_reported, end_reported, event_objects, event_text, IsEventTurn, Leads}
 use Rattle.room_run.specs.Happening.{Happening, Goes, IsApplied, line_of_turn, objects_of, text_of}
 use Rattle.room_run.specs.Heard.{AddsEach, Hears, IsRunWritten}
@@ -58,7 +57,7 @@ trace_by edid (Round begin) c x d h = (
   h.events,
 )
 
-pub objects_by : (edid : Option Edid) (room : Option Room) → SaysOf (Objects edid room) (objects_of edid room)
+pub objects_by : ObjectsSay
 objects_by edid room Stop c x d h = absurd h
 objects_by edid room (Apply at) c x d h =
     subst (λ (es : List TimedEvent). IsEventTurn (Objects edid room) at es c (objects_of edid room x) d) (sym h.next) (ap (objects_of edid room) h.is, h.after)

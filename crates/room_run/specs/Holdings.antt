@@ -1,9 +1,9 @@
 -- The line of a round with who holds which logical address when the round begins (own): the trace's line, and before its end one word
 -- more, `@NAME=ADDRESS@NAME=ADDRESS@`.
-use Rattle.std.specs.Prelude.{ℕ, ◌%◌, nat_lt, List, [], ◌∷◌, ◌++◌, if◌then◌else◌, map, Option, Some, None, codes}
+use Rattle.std.specs.Prelude.{ℕ, ◌%◌, nat_lt, List, [], ◌++◌, if◌then◌else◌, map, Option, Some, None, codes}
 use Rattle.std.specs.List.{flat_map}
 use Rattle.text_core.specs.Piece.{nibble_text}
-use Rattle.device_core.specs.State.{State, addresses_held}
+use Rattle.device_core.specs.State.{State, held_by as all_held}
 use Rattle.message_text.specs.ReadingText.{reading_text}
 use Rattle.room_trace.specs.TraceText.{comma_list, loser_text, name_at}
 use Rattle.line_rounds.specs.declared.Loser.{Loser}
@@ -14,12 +14,8 @@ abbrev pub holding : List ℕ → Option ℕ → List ℕ
 holding name None = []
 holding name (Some a) = if nat_lt a 15 then name ++ (codes "=" ++ (nibble_text (a % 16) ++ codes "@")) else []
 
-abbrev pub both_held : List ℕ → List (Option ℕ) → List ℕ
-both_held name (first ∷ second ∷ units) = holding name first ++ holding name second
-both_held name _ = []
-
 abbrev pub held_by : State → List ℕ
-held_by d = both_held d.name (addresses_held d.place)
+held_by d = flat_map (holding d.name) (all_held d)
 
 -- who was out, each with the slot
 abbrev pub out_text : List State → List Loser → List ℕ

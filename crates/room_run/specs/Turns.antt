@@ -18,13 +18,14 @@ use Rattle.room_net.specs.Apply.{net_after, event_fault}
 use Rattle.room_net.specs.Step.{IsNextRound}
 use Rattle.room_net.specs.Progress.{IsProgress}
 use Rattle.room_trace.specs.PortText.{port_lines}
+use Rattle.room_trace.specs.Room.{Room}
 use Rattle.room_run.specs.declared.run.Totals.{Totals}
 use Rattle.room_run.specs.declared.run.Reporting.{Reporting}
-use Rattle.room_run.specs.declared.run.Reporting.TheVariants.{Trace}
+use Rattle.room_run.specs.declared.run.Reporting.TheVariants.{Objects, Trace}
 use Rattle.room_run.specs.declared.run.Turn.{Turn}
 use Rattle.room_run.specs.declared.run.Turn.TheVariants.{Stop, Apply, Round}
 use Rattle.room_run.specs.Run.{Config, counted_event, counted_round, end_reported, event_reported, first_time, start_reported, turn_at, turn_of, IsRoundTurn, IsRunText, IsRunTextFrom, IsTurn, IsTurnBy, Leads}
-use Rattle.room_run.specs.Happening.{Happening, OfEvent, OfRound, text_of, Goes, Happens, HappensBy}
+use Rattle.room_run.specs.Happening.{Happening, OfEvent, OfRound, objects_of, text_of, Goes, Happens, HappensBy}
 
 -- ---- how far a turn brings the run
 
@@ -115,6 +116,10 @@ SaysOf reporting said = (turn : Turn) (c : Config) (x : Happening) (d : Config) 
 
 abbrev pub TracesSay : Type 0
 TracesSay = (edid : Option Edid) → SaysOf (Trace edid) (text_of edid)
+
+-- and so are the objects of it
+abbrev pub ObjectsSay : Type 0
+ObjectsSay = (edid : Option Edid) (room : Option Room) → SaysOf (Objects edid room) (objects_of edid room)
 
 -- what the turns so far told is the front of the text
 abbrev pub TextsBeginSo : Type 0

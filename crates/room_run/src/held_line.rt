@@ -168,14 +168,22 @@ fn add_holding<S: Sink>(out: &mut Counted<'_, S>, name: &[u8], unit: Option<Addr
     }
 }
 
+#[tactic(auto, using(text_core::proofs::Adding::nothing))]
+fn add_holdings<S: Sink>(out: &mut Counted<'_, S>, name: &[u8], held: &[Option<Addr>])
+    ensures { Adds out.old out.new (flat_map (holding name.now) held.now) }
+{
+    let Some((unit, others)) = held.split_first() else {
+        return;
+    };
+    add_holding(out, name, *unit);
+    add_holdings(out, name, others);
+}
+
 // Adds a device with each address that it holds.
-#[tactic(auto, using(text_core::proofs::Adding::then))]
 fn add_held_by<S: Sink>(out: &mut Counted<'_, S>, device: &Device<16>)
     ensures { Adds out.old out.new (held_by device.now) }
 {
-    let [first, second] = device.held();
-    add_holding(out, device.name(), first);
-    add_holding(out, device.name(), second);
+    add_holdings(out, device.name(), &device.all_held());
 }
 
 #[tactic(auto, using(text_core::proofs::Adding::nothing))]

@@ -12,7 +12,7 @@ ghost use Rattle.room_run.specs.Causal.{RunsAreCausal, TracesAreCausal};
 ghost use Rattle.room_run.specs.HeldTrace.{TextsHaveOneHeldTrace};
 ghost use Rattle.room_run.specs.Turns.{EventTurns, EventsAreRefused, EventsHappen, EventsKeepComplete, EventsKeepRounds, NoneAfterStop};
 ghost use Rattle.room_run.specs.Turns.{RoundTurns, RoundTurnsBegin, RoundsAreCounted, RoundsBringOn, RoundsHappen, RunsAreTold, SameOutcomesAreOne};
-ghost use Rattle.room_run.specs.Turns.{SchedulesGoOn, TextsBeginSo, TracesSay, TurnsAreOne};
+ghost use Rattle.room_run.specs.Turns.{ObjectsSay, SchedulesGoOn, TextsBeginSo, TracesSay, TurnsAreOne};
 
 use line_rounds::one_outcome;
 use room_script::one_script;
@@ -196,11 +196,12 @@ pub fn turns_are_one()
 {}
 
 /// What the turns so far report is the front of each text of the run, and where the run stops it is that text but for what stands
-/// last. What is said of each turn in a trace is what is reported of it.
+/// last. What is said of each turn in a trace is what is reported of it, and so is each object of it.
 pub fn turns_tell_the_text()
     ensures front { TextsBeginSo }
     ensures told { RunsAreTold }
     ensures trace { TracesSay }
+    ensures objects { ObjectsSay }
 {}
 
 /// A pulse that begins once a round has closed pulls nothing in it: the round stays the same whatever comes then or later, and so

@@ -27,7 +27,8 @@ use Rattle.text_core.specs.At.{at_word}
 use Rattle.text_core.specs.declared.at.AtWord.{AtWord}
 use Rattle.room_script.specs.declared.script.ScriptCause.{ScriptCause}
 use Rattle.room_script.specs.declared.script.ScriptCause.TheVariants.{Word, Width, Order, TooMany, End}
-use Rattle.room_script.specs.Script.{Notes, time_of, last_time, last_end, notes_with_event, plug_read, plug_words, unplug_read, unplug_words, key_read, key_words, act_read, hold_words, drop_words, send_read, frame_event, event_words, unless_fault, pulse_refusal, span_read, pulse_read, pulse_words, touches, notes_with_pull, pull_read, pull_words, is_before, level_of, pin_falls, pin_rises, pin_stays_high, pin_stays_low, notes_with_level, pin_read, pin_words, pulses_ended, end_read, end_words, other_words, IsSendRead, IsEventRead, IsWordsRead}
+use Rattle.room_script.specs.Script.{Notes, time_of, last_time, last_end, notes_with_event, plug_read, plug_words, unplug_read, unplug_words, key_read, key_words, act_read, hold_words, drop_words, send_read, frame_event, event_words, unless_fault, pulse_refusal, span_read, pulse_read, pulse_words, touches, notes_with_pull, pull_read, pull_words, is_before, level_of, pin_falls, pin_rises, pin_stays_high, pin_stays_low, notes_with_level, pin_read, pin_words, pulses_ended, end_read, end_words, other_words, IsHandedRead, IsSendRead, IsEventRead, IsWordsRead}
+use Rattle.room_script.specs.Sending.{handed_in}
 use Rattle.room_script.specs.Lines.{IsMore, LinesAdd, LinesAreOfScripts, LinesKeepFew, pulls_held}
 use Rattle.line_wave.specs.Bounds.{latest_event, most_pulses, most_pulls, widest_pull}
 
@@ -206,19 +207,25 @@ event_words-adds waiting tree notes line time verb words =
     (adds_if waiting notes (bytes_eq verb (codes "hold")) _ _ (hold_words-adds waiting tree notes line time (length words) (two_of words))
     (adds_if waiting notes (bytes_eq verb (codes "drop")) _ _ (drop_words-adds waiting tree notes line time (length words) (one_of words)) (adds_err waiting notes _ refl))))))
 
-send_read-adds : (waiting : ℕ) (notes : Notes) (line : ℕ) (time device : Option ℕ) (names : Option (Option HeaderNames)) (frame : Result (List ℕ) AssembleError) → Adds waiting notes (send_read notes line time device names frame)
-send_read-adds waiting notes line None device names frame = adds_err waiting notes _ refl
-send_read-adds waiting notes line (Some time) None names frame = adds_err waiting notes _ refl
-send_read-adds waiting notes line (Some time) (Some device) None frame = adds_err waiting notes _ refl
-send_read-adds waiting notes line (Some time) (Some device) (Some names) (Err cause) = adds_err waiting notes _ refl
-send_read-adds waiting notes line (Some time) (Some device) (Some names) (Ok frame) = scheduled-adds waiting notes line time (frame_event device names frame)
+send_read-adds : (waiting : ℕ) (notes : Notes) (line at : ℕ) (time : Option ℕ) (attempts : Option (Option ℕ)) (device : Option ℕ) (names : Option (Option HeaderNames)) (frame : Result (List ℕ) (AtWord ScriptCause))
+    → Adds waiting notes (send_read notes line at time attempts device names frame)
+send_read-adds waiting notes line at None attempts device names frame = adds_err waiting notes _ refl
+send_read-adds waiting notes line at (Some time) None device names frame = adds_err waiting notes _ refl
+send_read-adds waiting notes line at (Some time) (Some attempts) None names frame = adds_err waiting notes _ refl
+send_read-adds waiting notes line at (Some time) (Some attempts) (Some device) None frame = adds_err waiting notes _ refl
+send_read-adds waiting notes line at (Some time) (Some attempts) (Some device) (Some names) (Err fault) = adds_err waiting notes _ refl
+send_read-adds waiting notes line at (Some time) (Some attempts) (Some device) (Some names) (Ok frame) = scheduled-adds waiting notes line time (frame_event device (record { line = line; attempts = attempts }) names frame)
+
+handed-adds : (waiting : ℕ) (tree : List Node) (notes : Notes) (line : ℕ) (time name : List ℕ) (at : ℕ) (attempts : Option (Option ℕ)) (words : List (List ℕ)) (next : Notes)
+    → IsHandedRead tree notes line time name at attempts words (Ok next) → IsMore waiting notes next
+handed-adds waiting tree notes line time name at attempts [] next h = cc
+handed-adds waiting tree notes line time name at attempts (word ∷ words) next h =
+    adds_next waiting notes (send_read notes line at (time_of time) attempts (device_named tree name) (header_names tree word) h.0) next
+    (send_read-adds waiting notes line at (time_of time) attempts (device_named tree name) (header_names tree word) h.0) (sym h.2)
 
 send-adds : (waiting : ℕ) (tree : List Node) (notes : Notes) (line : ℕ) (time : List ℕ) (words : List (List ℕ)) (next : Notes) → IsSendRead tree notes line time words (Ok next) → IsMore waiting notes next
 send-adds waiting tree notes line time [] next h = cc
-send-adds waiting tree notes line time (name ∷ []) next h = cc
-send-adds waiting tree notes line time (name ∷ word ∷ words) next h =
-    adds_next waiting notes (send_read notes line (time_of time) (device_named tree name) (header_names tree word) h.0) next
-    (send_read-adds waiting notes line (time_of time) (device_named tree name) (header_names tree word) h.0) (sym h.2)
+send-adds waiting tree notes line time (name ∷ words) next h = handed-adds waiting tree notes line time name (handed_in words).at (handed_in words).attempts (handed_in words).words next h
 
 -- none of two
 neither : (a b : Bool) → (a || b) ≡ false → a ≡ false

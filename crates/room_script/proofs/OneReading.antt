@@ -1,16 +1,18 @@
 -- A text that is read as a script is read in no other way.
-use Rattle.std.proofs.Common.{◌≡◌, ℕ, ◌+◌, Bool, true, false, cond, codes, List, [], ◌∷◌, length, Option, Some, None, Result, Ok, Err, sym, ap, subst, ◌∙◌}
+use Rattle.std.proofs.Common.{◌≡◌, ℕ, ◌+◌, Bool, true, false, cond, codes, List, [], ◌∷◌, length, Option, Some, None, Result, Ok, Err, refl, sym, ap, subst, ◌∙◌}
 use Rattle.std.specs.Str.{bytes_eq}
 use Rattle.edid_tree.specs.Node.{Node}
 use Rattle.edid_tree.specs.Tree.{device_named}
 use Rattle.text_core.specs.Lines.{lines_of, is_skipped}
 use Rattle.message_text.specs.declared.assembler.AssembleError.{AssembleError}
-use Rattle.text_core.specs.Words.{words_of}
+use Rattle.text_core.specs.Words.{text_of, words_of}
+use Rattle.message_hex.specs.Bytes.{frame_in}
 use Rattle.room_event.specs.declared.event.HeaderNames.{HeaderNames}
 use Rattle.room_script.specs.Header.{header_names, digits_text}
 use Rattle.text_core.specs.declared.at.AtWord.{AtWord}
 use Rattle.room_script.specs.declared.script.ScriptCause.{ScriptCause}
-use Rattle.room_script.specs.Script.{Course, Notes, time_of, send_read, event_words, other_words, no_notes, IsFrameOf, IsSendRead, IsEventRead, IsWordsRead, IsLineRead, Onward, AreLinesRead, OneScript}
+use Rattle.room_script.specs.Sending.{frame_read, handed_in, hex_read, IsFrameOf, IsFrameRead, IsTextRead}
+use Rattle.room_script.specs.Script.{Course, Notes, time_of, send_read, event_words, other_words, no_notes, IsHandedRead, IsSendRead, IsEventRead, IsWordsRead, IsLineRead, Onward, AreLinesRead, OneScript}
 use Rattle.text_core.specs.declared.at.At.{At}
 
 -- a frame's text is no other's
@@ -18,26 +20,46 @@ one_frame : (text frame : List ℕ) (r : Result (List ℕ) AssembleError) → Is
 one_frame text frame (Ok other) h g = ap Ok (sym (h.1 other g.0))
 one_frame text frame (Err cause) h g = absurd (g.1 frame h.0)
 
--- what two readings of a text as a frame make of the notes, where the first takes it
-one_send_read : (notes next : Notes) (line : ℕ) (time device : Option ℕ) (names : Option (Option HeaderNames)) (text : List ℕ) (r q : Result (List ℕ) AssembleError) → IsFrameOf text r → IsFrameOf text q
-    → Ok next ≡ send_read notes line time device names r → send_read notes line time device names q ≡ Ok next
-one_send_read notes next line None device names text r q h g e = cc
-one_send_read notes next line (Some time) None names text r q h g e = cc
-one_send_read notes next line (Some time) (Some device) None text r q h g e = cc
-one_send_read notes next line (Some time) (Some device) (Some names) text (Err cause) q h g e = cc
-one_send_read notes next line (Some time) (Some device) (Some names) text (Ok frame) q h g e =
-    ap (send_read notes line (Some time) (Some device) (Some names)) (one_frame text frame q h g) ∙ sym e
+same_way : (b : Bool) (P Q P2 Q2 R : Type 0) → (P → P2 → R) → (Q → Q2 → R) → cond {A = Type 0} b P Q → cond {A = Type 0} b P2 Q2 → R
+same_way true P Q P2 Q2 R f g h k = f h k
+same_way false P Q P2 Q2 R f g h k = g h k
+
+-- what words say as a frame they say in no other way
+one_text : (at : ℕ) (words : List (List ℕ)) (frame : List ℕ) (read : Result (List ℕ) (AtWord ScriptCause)) → IsTextRead at words (Ok frame) → IsTextRead at words read → read ≡ Ok frame
+one_text at words frame read h g = by h.0 g.0 h.1 g.1 h.2 g.2
+  where
+    by : (r q : Result (List ℕ) AssembleError) → IsFrameOf (digits_text words) r → IsFrameOf (digits_text words) q → Ok frame ≡ frame_read at r → read ≡ frame_read at q → read ≡ Ok frame
+    by (Err cause) q p s e k = cc
+    by (Ok f) q p s e k = k ∙ ap (frame_read at) (one_frame (digits_text words) f q p s) ∙ sym e
+
+one_said : (at : ℕ) (words : List (List ℕ)) (frame : List ℕ) (read : Result (List ℕ) (AtWord ScriptCause)) → IsFrameRead at words (Ok frame) → IsFrameRead at words read → read ≡ Ok frame
+one_said at [] frame read h g = cc
+one_said at (word ∷ words) frame read h g =
+    same_way (bytes_eq word (codes "hex")) (Ok frame ≡ hex_read (at + 1) (frame_in (text_of words))) (IsTextRead at (word ∷ words) (Ok frame)) (read ≡ hex_read (at + 1) (frame_in (text_of words)))
+    (IsTextRead at (word ∷ words) read) (read ≡ Ok frame) (λ p q. q ∙ sym p) (λ p q. one_text at (word ∷ words) frame read p q) h g
+
+-- what two readings of a frame make of the notes, where the first takes it
+one_send_read : (notes next : Notes) (line at : ℕ) (time : Option ℕ) (attempts : Option (Option ℕ)) (device : Option ℕ) (names : Option (Option HeaderNames)) (r q : Result (List ℕ) (AtWord ScriptCause))
+    → ((frame : List ℕ) → r ≡ Ok frame → q ≡ Ok frame) → Ok next ≡ send_read notes line at time attempts device names r → send_read notes line at time attempts device names q ≡ Ok next
+one_send_read notes next line at None attempts device names r q f e = cc
+one_send_read notes next line at (Some time) None device names r q f e = cc
+one_send_read notes next line at (Some time) (Some attempts) None names r q f e = cc
+one_send_read notes next line at (Some time) (Some attempts) (Some device) None r q f e = cc
+one_send_read notes next line at (Some time) (Some attempts) (Some device) (Some names) (Err fault) q f e = cc
+one_send_read notes next line at (Some time) (Some attempts) (Some device) (Some names) (Ok frame) q f e =
+    ap (send_read notes line at (Some time) (Some attempts) (Some device) (Some names)) (f frame refl) ∙ sym e
+
+one_handed : (tree : List Node) (notes next : Notes) (line : ℕ) (time name : List ℕ) (at : ℕ) (attempts : Option (Option ℕ)) (words : List (List ℕ)) (read : Result Notes (AtWord ScriptCause))
+    → IsHandedRead tree notes line time name at attempts words (Ok next) → IsHandedRead tree notes line time name at attempts words read → read ≡ Ok next
+one_handed tree notes next line time name at attempts [] read h g = cc
+one_handed tree notes next line time name at attempts (word ∷ words) read h g =
+    let Said : Result (List ℕ) (AtWord ScriptCause) → Type 0 = λ r. IsFrameRead at (word ∷ words) r in
+    g.2 ∙ one_send_read notes next line at (time_of time) attempts (device_named tree name) (header_names tree word) h.0 g.0 (λ frame e. one_said at (word ∷ words) frame g.0 (subst Said e h.1) g.1) h.2
 
 one_send : (tree : List Node) (notes next : Notes) (line : ℕ) (time : List ℕ) (words : List (List ℕ)) (read : Result Notes (AtWord ScriptCause)) → IsSendRead tree notes line time words (Ok next) → IsSendRead tree notes line time words read
     → read ≡ Ok next
 one_send tree notes next line time [] read h g = cc
-one_send tree notes next line time (name ∷ []) read h g = cc
-one_send tree notes next line time (name ∷ word ∷ words) read h g =
-    g.2 ∙ one_send_read notes next line (time_of time) (device_named tree name) (header_names tree word) (digits_text (word ∷ words)) h.0 g.0 h.1 g.1 h.2
-
-same_way : (b : Bool) (P Q P2 Q2 R : Type 0) → (P → P2 → R) → (Q → Q2 → R) → cond {A = Type 0} b P Q → cond {A = Type 0} b P2 Q2 → R
-same_way true P Q P2 Q2 R f g h k = f h k
-same_way false P Q P2 Q2 R f g h k = g h k
+one_send tree notes next line time (name ∷ words) read h g = one_handed tree notes next line time name (handed_in words).at (handed_in words).attempts (handed_in words).words read h g
 
 one_event : (tree : List Node) (notes next : Notes) (line : ℕ) (words : List (List ℕ)) (read : Result Notes (AtWord ScriptCause)) → IsEventRead tree notes line words (Ok next) → IsEventRead tree notes line words read → read ≡ Ok next
 one_event tree notes next line [] read h g = cc

@@ -3,17 +3,21 @@ use Rattle.std.proofs.Common.{◌≡◌, ℕ, ◌+◌, ◌<◌, true, false, if�
 use Rattle.std.proofs.lemmas.List.Splits.{join_with_byte-slice_split}
 use Rattle.edid_tree.specs.Node.{Node}
 use Rattle.edid_tree.specs.Tree.{device_named}
-use Rattle.message_text.specs.declared.assembler.AssembleError.{AssembleError}
-use Rattle.text_core.specs.Words.{words_of, text_of}
+use Rattle.text_core.specs.Words.{words_after, words_of, text_of}
+use Rattle.text_core.specs.At.{at_word}
 use Rattle.text_core.specs.declared.at.AtWord.{AtWord}
 use Rattle.room_script.specs.declared.script.ScriptCause.{ScriptCause}
+use Rattle.room_script.specs.declared.script.ScriptCause.TheVariants.{Word}
 use Rattle.room_script.specs.declared.script.ScriptLineError.{ScriptLineError}
 use Rattle.room_script.specs.declared.script.ScriptLineError.TheVariants.{Fault, Memory}
 use Rattle.room_event.specs.declared.event.HeaderNames.{HeaderNames}
 use Rattle.text_core.proofs.PartedLemmas.{words_of-some}
 use Rattle.room_script.specs.Header.{has_names, digits_of, with_digits, digits_text, header_names}
 use Rattle.room_script.specs.Lines.{LinesEnd, LinesFollow}
-use Rattle.room_script.specs.Script.{Notes, time_of, send_read, course_at_end, IsFrameOf, IsSendRead, AreLinesRead, GivesNotes, Gives}
+use Rattle.std.specs.Option.{option_copied}
+use Rattle.room_script.specs.declared.sending.HandedIn.{HandedIn}
+use Rattle.room_script.specs.Sending.{Handed, handed_as, handed_in, IsFrameRead}
+use Rattle.room_script.specs.Script.{Notes, time_of, send_read, course_at_end, IsHandedRead, IsSendRead, AreLinesRead, GivesNotes, Gives}
 use Rattle.text_core.specs.declared.at.At.{At}
 
 pub text_of-words_of : (text : List ℕ) → text_of (words_of text) ≡ text
@@ -48,17 +52,33 @@ named_text text word others parted named =
     let header : with_digits word ≡ digits_of word = ap (λ b. if b then digits_of word else word) named in
     ap digits_text parted ∙ ap (λ w. text_of (w ∷ others)) header
 
--- a frame's text after a name
-pub gives_send : (tree : List Node) (notes now : Notes) (line : ℕ) (time name frame word : List ℕ) (others words : List (List ℕ)) (result : Result Unit ScriptLineError) (at device : Option ℕ) (names : Option (Option HeaderNames))
-    (r : Result (List ℕ) AssembleError) → words ≡ name ∷ words_of frame → words_of frame ≡ word ∷ others → at ≡ time_of time → device ≡ device_named tree name → names ≡ header_names tree word
-    → IsFrameOf (digits_text (words_of frame)) r → GivesNotes now result (send_read notes line at device names r) → Gives now result (IsSendRead tree notes line time words)
-gives_send tree notes now line time name frame word others words result at device names r split parted same_time same_device same_names is g =
-    let same : send_read notes line at device names r ≡ send_read notes line (time_of time) (device_named tree name) (header_names tree word) r = cc in
+-- what is handed in is what these words say
+abbrev pub IsHanded : HandedIn → List (List ℕ) → Type 0
+IsHanded h rest = handed_as h ≡ handed_in rest
+
+-- a frame that is handed in after a name
+pub gives_send : (tree : List Node) (notes now : Notes) (line : ℕ) (time name : List ℕ) (rest words : List (List ℕ)) (h : HandedIn) (frame word : List ℕ) (others : List (List ℕ)) (result : Result Unit ScriptLineError)
+    (instant device : Option ℕ) (names : Option (Option HeaderNames)) (r : Result (List ℕ) (AtWord ScriptCause)) → words ≡ name ∷ rest → IsHanded h rest → words_after (option_copied h.frame) ≡ words_of frame
+    → words_of frame ≡ word ∷ others → instant ≡ time_of time → device ≡ device_named tree name → names ≡ header_names tree word → IsFrameRead h.at (words_of frame) r
+    → GivesNotes now result (send_read notes line h.at instant h.attempts device names r) → Gives now result (IsSendRead tree notes line time words)
+gives_send tree notes now line time name rest words h frame word others result instant device names r split handed whole parted same_time same_device same_names is g =
+    let same : send_read notes line h.at instant h.attempts device names r ≡ send_read notes line h.at (time_of time) h.attempts (device_named tree name) (header_names tree word) r = cc in
     let read = subst (GivesNotes now result) same g in
-    let whole : words ≡ name ∷ word ∷ others = split ∙ ap (λ (w : List (List ℕ)). name ∷ w) parted in
-    let FrameOf : List (List ℕ) → Type 0 = λ w. IsFrameOf (digits_text w) r in
+    let Said : List (List ℕ) → Type 0 = λ w. IsFrameRead h.at w r in
+    let By : List (List ℕ) → Type 0 = λ w. Gives now result (IsHandedRead tree notes line time name h.at h.attempts w) in
+    let As : Handed → Type 0 = λ k. Gives now result (IsHandedRead tree notes line time name k.at k.attempts k.words) in
     let P : List (List ℕ) → Type 0 = λ w. Gives now result (IsSendRead tree notes line time w) in
-    subst P (sym whole) (gives (IsSendRead tree notes line time (name ∷ word ∷ others)) now result _ read (r, subst FrameOf parted is, refl))
+    let given = gives (IsHandedRead tree notes line time name h.at h.attempts (word ∷ others)) now result _ read (r, subst Said parted is, refl) in
+    subst P (sym split) (subst As handed (subst By (sym (whole ∙ parted)) given))
+
+-- where nothing is
+pub none_handed : (tree : List Node) (notes : Notes) (line : ℕ) (time name : List ℕ) (rest words : List (List ℕ)) (h : HandedIn) → words ≡ name ∷ rest → IsHanded h rest → words_after (option_copied h.frame) ≡ []
+    → IsSendRead tree notes line time words (Err (at_word h.at Word))
+none_handed tree notes line time name rest words h split handed none =
+    let By : List (List ℕ) → Type 0 = λ w. IsHandedRead tree notes line time name h.at h.attempts w (Err (at_word h.at Word)) in
+    let As : Handed → Type 0 = λ k. IsHandedRead tree notes line time name k.at k.attempts k.words (Err (at_word h.at Word)) in
+    let P : List (List ℕ) → Type 0 = λ w. IsSendRead tree notes line time w (Err (at_word h.at Word)) in
+    subst P (sym split) (subst As handed (subst By (sym none) refl))
 
 -- the first of some lines, and those after it
 pub line_read : LinesFollow

@@ -1,5 +1,5 @@
 -- What holds of every script: the order of times, the limit, devices of the tree, frames and pulses.
-use Rattle.std.proofs.Common.{◌≡◌, ℕ, suc, ◌+◌, ◌-◌, ◌<◌, ◌≤◌, ◌==◌, ◌&&◌, ◌||◌, Bool, true, false, cond, codes, List, [], ◌∷◌, ◌++◌, length, max, min, nat_lt, nat_le, if◌then◌else◌, drop, slice_get, Option, Some, None, IfSome, is_some, option_map, Result, Ok, Err, refl, sym, ap, subst, ◌∙◌, arith}
+use Rattle.std.proofs.Common.{◌≡◌, ◌↔◌, ℕ, suc, ◌+◌, ◌-◌, ◌<◌, ◌≤◌, ◌==◌, ◌&&◌, ◌||◌, Bool, true, false, cond, codes, List, [], ◌∷◌, ◌++◌, length, max, min, nat_lt, nat_le, if◌then◌else◌, drop, slice_get, Option, Some, None, IfSome, is_some, option_map, Result, Ok, Err, refl, sym, ap, subst, ◌∙◌, arith}
 use Rattle.std.specs.Str.{bytes_eq}
 use Rattle.std.specs.Option.{option_map_or}
 use Rattle.std.specs.List.{All}
@@ -19,11 +19,18 @@ use Rattle.line_wave.specs.Bounds.{latest_event, most_pulses, most_pulls, widest
 use Rattle.text_core.specs.Lines.{lines_of, is_skipped}
 use Rattle.message_text.specs.FrameReading.{is_frame}
 use Rattle.message_text.specs.declared.assembler.AssembleError.{AssembleError}
-use Rattle.text_core.specs.Words.{words_of, one_of, two_of, three_of}
+use Rattle.text_core.specs.Words.{text_of, words_of, one_of, two_of, three_of}
+use Rattle.message_hex.specs.Bytes.{after_arrow, frame_in, whole_frame}
+use Rattle.message_hex.specs.Spelling.{Spells}
+use Rattle.message_hex.proofs.Spelled.{spellings_are_read}
+use Rattle.message_hex.specs.declared.bytes.DisCause.{DisCause}
+use Rattle.message_hex.specs.declared.bytes.DisCause.TheVariants.{Length}
+use Rattle.room_script.specs.Sending.{frame_read, handed_in, hex_read, IsFrameOf, IsFrameRead, IsTextRead}
 use Rattle.text_core.specs.Number.{number_of}
 use Rattle.room_script.specs.Keys.{key_of}
 use Rattle.room_script.specs.Header.{is_named, initiator_part, destination_part, has_names, device_of, names_by, header_names, digits_text}
 use Rattle.room_script.specs.Holding.{hold_of}
+use Rattle.device_core.specs.declared.device.Ticket.{Ticket}
 use Rattle.device_core.specs.declared.outside.Act.{Act}
 use Rattle.device_core.specs.declared.outside.Act.TheVariants.{Empty}
 use Rattle.room_event.specs.Events.{AreNamed, NamesDevices, IsFramedEvent}
@@ -36,7 +43,7 @@ use Rattle.room_script.proofs.Adding.{few_pulses, none_while_low}
 use Rattle.text_core.specs.declared.at.AtWord.{AtWord}
 use Rattle.room_script.specs.declared.script.ScriptCause.{ScriptCause}
 use Rattle.room_script.specs.declared.script.ScriptError.TheVariants as errors
-use Rattle.room_script.specs.Script.{Course, Notes, within_limit, time_of, last_time, last_end, notes_with_event, plug_read, plug_words, unplug_read, unplug_words, key_read, key_words, act_read, hold_words, drop_words, send_read, frame_event, event_words, unless_fault, pulse_refusal, notes_with_pulse, span_read, pulse_read, pulse_words, touches, notes_with_pull, pull_read, pull_words, is_before, level_of, pin_falls, pin_rises, pin_stays_high, pin_stays_low, notes_with_level, pin_read, pin_words, pulses_ended, end_read, end_words, other_words, course_at_end, course_of, no_notes, IsFrameOf, IsSendRead, IsEventRead, IsWordsRead, IsLineRead, IsSchedule, AreFramedEvents, IsNoWider, MayFall, IsScript, Onward, AreLinesRead, IsScriptRead, ScriptsAreSound}
+use Rattle.room_script.specs.Script.{Course, Notes, within_limit, time_of, last_time, last_end, notes_with_event, plug_read, plug_words, unplug_read, unplug_words, key_read, key_words, act_read, hold_words, drop_words, send_read, frame_event, event_words, unless_fault, pulse_refusal, notes_with_pulse, span_read, pulse_read, pulse_words, touches, notes_with_pull, pull_read, pull_words, is_before, level_of, pin_falls, pin_rises, pin_stays_high, pin_stays_low, notes_with_level, pin_read, pin_words, pulses_ended, end_read, end_words, other_words, course_at_end, course_of, no_notes, IsHandedRead, IsSendRead, IsEventRead, IsWordsRead, IsLineRead, IsSchedule, AreFramedEvents, IsNoWider, MayFall, IsScript, Onward, AreLinesRead, IsScriptRead, ScriptsAreSound}
 
 -- ---- times
 
@@ -319,31 +326,66 @@ header-below tree word names h = by (has_names word) h
         names_by-below (length tree) (device_of tree (initiator_part word)) (device_of tree (destination_part word)) names (device_of-below tree (initiator_part word)) (device_of-below tree (destination_part word)) e
 
 -- the event of a frame
-framed-keeps : (count : ℕ) (notes : Notes) (line time device : ℕ) (names : Option HeaderNames) (frame : List ℕ) → AreSound count notes → device < count → AreBelow count names → 0 < length frame
-    → Keeps count (notes_with_event notes line time (frame_event device names frame))
-framed-keeps count notes line time device None frame s below named some = scheduled-keeps count notes line time (Send device frame) s below some
-framed-keeps count notes line time device (Some names) frame s below named some = scheduled-keeps count notes line time (SendNamed device names frame) s (below, named) some
-
-send_read-keeps : (count : ℕ) (notes : Notes) (line : ℕ) (time device : Option ℕ) (names : Option (Option HeaderNames)) (text : List ℕ) (frame : Result (List ℕ) AssembleError) → AreSound count notes
-    → ((i : ℕ) → device ≡ Some i → i < count) → ((n : Option HeaderNames) → names ≡ Some n → AreBelow count n) → IsFrameOf text frame → Keeps count (send_read notes line time device names frame)
-send_read-keeps count notes line None device names text frame s hd hn is = keeps_err count _ refl
-send_read-keeps count notes line (Some time) None names text frame s hd hn is = keeps_err count _ refl
-send_read-keeps count notes line (Some time) (Some device) None text frame s hd hn is = keeps_err count _ refl
-send_read-keeps count notes line (Some time) (Some device) (Some names) text (Err cause) s hd hn is = keeps_err count _ refl
-send_read-keeps count notes line (Some time) (Some device) (Some names) text (Ok frame) s hd hn is =
-    framed-keeps count notes line time device names frame s (hd device refl) (hn names refl) (frame_some frame is.0.whole)
-
-send-keeps : (tree : List Node) (notes : Notes) (line : ℕ) (time : List ℕ) (words : List (List ℕ)) (next : Notes) → AreSound (length tree) notes → IsSendRead tree notes line time words (Ok next) → AreSound (length tree) next
-send-keeps tree notes line time [] next s h = cc
-send-keeps tree notes line time (name ∷ []) next s h = cc
-send-keeps tree notes line time (name ∷ word ∷ words) next s h =
-    keeps_next (length tree) (send_read notes line (time_of time) (device_named tree name) (header_names tree word) h.0) next
-    (send_read-keeps (length tree) notes line (time_of time) (device_named tree name) (header_names tree word) (digits_text (word ∷ words)) h.0 s (named-below tree name) (header-below tree word) h.1) (sym h.2)
+framed-keeps : (count : ℕ) (notes : Notes) (line time device : ℕ) (ticket : Ticket) (names : Option HeaderNames) (frame : List ℕ) → AreSound count notes → device < count → AreBelow count names → 0 < length frame
+    → Keeps count (notes_with_event notes line time (frame_event device ticket names frame))
+framed-keeps count notes line time device ticket None frame s below named some = scheduled-keeps count notes line time (Send device frame ticket) s below some
+framed-keeps count notes line time device ticket (Some names) frame s below named some = scheduled-keeps count notes line time (SendNamed device names frame ticket) s (below, named) some
 
 -- either way
 by_cond : (b : Bool) (P Q R : Type 0) → (P → R) → (Q → R) → cond {A = Type 0} b P Q → R
 by_cond true P Q R f g h = f h
 by_cond false P Q R f g h = g h
+
+-- a frame in hex has a block
+hex_some : (at : ℕ) (bytes : Result (List ℕ) DisCause) (frame : List ℕ) → Ok frame ≡ hex_read at (whole_frame bytes) → 0 < length frame
+hex_some at (Err cause) frame e = cc
+hex_some at (Ok bytes) frame e = by (nat_le 1 (length bytes)) (nat_le (length bytes) 16) refl e
+  where
+    by : (some few : Bool) → nat_le 1 (length bytes) ≡ some → Ok frame ≡ hex_read at (if some && few then Ok bytes else Err Length) → 0 < length frame
+    by true true t k = let same : frame ≡ bytes = cc in let long : 0 < length bytes = grind (arith, nat_tests) in subst (λ (x : List ℕ). 0 < length x) (sym same) long
+    by true false t k = cc
+    by false few t k = cc
+
+-- however the bytes are read
+hex_said : {from : List ℕ → Result (List ℕ) DisCause} → ((text bytes : List ℕ) → (from text ≡ Ok bytes) ↔ Spells text bytes) → (at : ℕ) (text frame : List ℕ)
+    → Ok frame ≡ hex_read at (whole_frame (from text)) → 0 < length frame
+hex_said {from = from} spelled at text frame e = hex_some at (from text) frame e
+
+-- and so has the frame of a text
+text_some : (at : ℕ) (words : List (List ℕ)) (frame : List ℕ) → IsTextRead at words (Ok frame) → 0 < length frame
+text_some at words frame h = by h.0 h.1 h.2
+  where
+    by : (r : Result (List ℕ) AssembleError) → IsFrameOf (digits_text words) r → Ok frame ≡ frame_read at r → 0 < length frame
+    by (Err cause) is e = cc
+    by (Ok f) is e = let same : frame ≡ f = cc in subst (λ (x : List ℕ). 0 < length x) (sym same) (frame_some f is.0.whole)
+
+said_some : (at : ℕ) (words : List (List ℕ)) (frame : List ℕ) → IsFrameRead at words (Ok frame) → 0 < length frame
+said_some at [] frame h = cc
+said_some at (word ∷ words) frame h =
+    by_cond (bytes_eq word (codes "hex")) (Ok frame ≡ hex_read (at + 1) (frame_in (text_of words))) (IsTextRead at (word ∷ words) (Ok frame)) (0 < length frame)
+    (λ p. hex_said spellings_are_read (at + 1) (after_arrow (text_of words)) frame p) (λ q. text_some at (word ∷ words) frame q) h
+
+send_read-keeps : (count : ℕ) (notes : Notes) (line at : ℕ) (time : Option ℕ) (attempts : Option (Option ℕ)) (device : Option ℕ) (names : Option (Option HeaderNames)) (frame : Result (List ℕ) (AtWord ScriptCause)) → AreSound count notes
+    → ((i : ℕ) → device ≡ Some i → i < count) → ((n : Option HeaderNames) → names ≡ Some n → AreBelow count n) → ((f : List ℕ) → frame ≡ Ok f → 0 < length f) → Keeps count (send_read notes line at time attempts device names frame)
+send_read-keeps count notes line at None attempts device names frame s hd hn hf = keeps_err count _ refl
+send_read-keeps count notes line at (Some time) None device names frame s hd hn hf = keeps_err count _ refl
+send_read-keeps count notes line at (Some time) (Some attempts) None names frame s hd hn hf = keeps_err count _ refl
+send_read-keeps count notes line at (Some time) (Some attempts) (Some device) None frame s hd hn hf = keeps_err count _ refl
+send_read-keeps count notes line at (Some time) (Some attempts) (Some device) (Some names) (Err fault) s hd hn hf = keeps_err count _ refl
+send_read-keeps count notes line at (Some time) (Some attempts) (Some device) (Some names) (Ok frame) s hd hn hf =
+    framed-keeps count notes line time device (record { line = line; attempts = attempts }) names frame s (hd device refl) (hn names refl) (hf frame refl)
+
+handed-keeps : (tree : List Node) (notes : Notes) (line : ℕ) (time name : List ℕ) (at : ℕ) (attempts : Option (Option ℕ)) (words : List (List ℕ)) (next : Notes) → AreSound (length tree) notes
+    → IsHandedRead tree notes line time name at attempts words (Ok next) → AreSound (length tree) next
+handed-keeps tree notes line time name at attempts [] next s h = cc
+handed-keeps tree notes line time name at attempts (word ∷ words) next s h =
+    let Said : Result (List ℕ) (AtWord ScriptCause) → Type 0 = λ r. IsFrameRead at (word ∷ words) r in
+    keeps_next (length tree) (send_read notes line at (time_of time) attempts (device_named tree name) (header_names tree word) h.0) next
+    (send_read-keeps (length tree) notes line at (time_of time) attempts (device_named tree name) (header_names tree word) h.0 s (named-below tree name) (header-below tree word) (λ f e. said_some at (word ∷ words) f (subst Said e h.1))) (sym h.2)
+
+send-keeps : (tree : List Node) (notes : Notes) (line : ℕ) (time : List ℕ) (words : List (List ℕ)) (next : Notes) → AreSound (length tree) notes → IsSendRead tree notes line time words (Ok next) → AreSound (length tree) next
+send-keeps tree notes line time [] next s h = cc
+send-keeps tree notes line time (name ∷ words) next s h = handed-keeps tree notes line time name (handed_in words).at (handed_in words).attempts (handed_in words).words next s h
 
 event-keeps : (tree : List Node) (notes : Notes) (line : ℕ) (words : List (List ℕ)) (next : Notes) → AreSound (length tree) notes → IsEventRead tree notes line words (Ok next) → AreSound (length tree) next
 event-keeps tree notes line [] next s h = cc

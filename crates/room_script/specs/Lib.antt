@@ -4,4 +4,5 @@ pub mod Header
 pub mod Holding
 pub mod Topology
 pub mod Script
+pub mod Sending
 pub mod Lines

@@ -12,19 +12,18 @@ use Rattle.line_wave.specs.Bounds.{latest_event, most_pulses, most_pulls, widest
 use Rattle.device_features.specs.declared.keys.Key.{Key as KeyValue}
 use Rattle.edid_tree.specs.Node.{Node}
 use Rattle.edid_tree.specs.Tree.{device_named}
-use Rattle.message_text.specs.Causes.{assemble_cause, frame_word}
-use Rattle.message_text.specs.FrameLines.{IsTextOf}
+use Rattle.message_text.specs.Causes.{assemble_cause}
 use Rattle.text_core.specs.Lines.{lines_of, is_skipped}
-use Rattle.message_text.specs.Refusals.{IsRefused}
-use Rattle.message_text.specs.declared.assembler.AssembleError.{AssembleError}
 use Rattle.text_core.specs.Words.{words_of, one_of, two_of, three_of}
 use Rattle.text_core.specs.Number.{number_of}
 use Rattle.room_script.specs.Fault.{misfit}
 use Rattle.text_core.specs.At.{at_line, at_word}
 use Rattle.text_core.specs.declared.at.At.{At}
 use Rattle.room_script.specs.Keys.{key_of}
-use Rattle.room_script.specs.Header.{digits_text, header_names}
+use Rattle.room_script.specs.Sending.{handed_in, IsFrameRead}
+use Rattle.room_script.specs.Header.{header_names}
 use Rattle.room_script.specs.Holding.{hold_of}
+use Rattle.device_core.specs.declared.device.Ticket.{Ticket}
 use Rattle.device_core.specs.declared.outside.Act.{Act}
 use Rattle.device_core.specs.declared.outside.Act.TheVariants.{Empty}
 use Rattle.room_event.specs.Events.{NamesDevices, IsFramedEvent}
@@ -36,7 +35,7 @@ use Rattle.room_script.specs.declared.script.ScriptDraft.{ScriptDraft}
 use Rattle.room_script.specs.declared.course.Script.{Script}
 use Rattle.text_core.specs.declared.at.AtWord.{AtWord}
 use Rattle.room_script.specs.declared.script.ScriptCause.{ScriptCause}
-use Rattle.room_script.specs.declared.script.ScriptCause.TheVariants.{Word, Number, Name, Frame, Width, Order, Close, TooMany, End}
+use Rattle.room_script.specs.declared.script.ScriptCause.TheVariants.{Word, Number, Name, Frame, Hex, Width, Order, Close, TooMany, End}
 use Rattle.room_script.specs.declared.script.ScriptError.{ScriptError}
 use Rattle.room_script.specs.declared.script.ScriptError.TheVariants as errors
 use Rattle.room_script.specs.declared.script.ScriptLineError.{ScriptLineError}
@@ -48,6 +47,7 @@ script_cause Word = codes "word"
 script_cause Number = codes "number"
 script_cause Name = codes "name"
 script_cause (Frame cause) = codes "frame " ++ assemble_cause cause
+script_cause Hex = codes "hex"
 script_cause Width = codes "width"
 script_cause Order = codes "order"
 script_cause Close = codes "close"
@@ -158,31 +158,32 @@ event_words tree notes line time verb words =
     else if bytes_eq verb (codes "drop") then drop_words tree notes line time (length words) (one_of words)
     else Err (at_word 2 Word)
 
--- a text is this frame's and no other's, or no frame's, for this cause
-abbrev pub IsFrameOf : List ℕ → Result (List ℕ) AssembleError → Type 0
-IsFrameOf text (Ok frame) = IsTextOf text frame × ((other : List ℕ) → IsTextOf text other → frame ≡ other)
-IsFrameOf text (Err cause) = IsRefused text cause × ((frame : List ℕ) → IsTextOf text frame → ⊥)
+-- a frame that is handed in, with its line and how many attempts it has, and the names in its header, where there are some
+abbrev pub frame_event : ℕ → Ticket → Option HeaderNames → List ℕ → Event
+frame_event device ticket None frame = Send device frame ticket
+frame_event device ticket (Some names) frame = SendNamed device names frame ticket
 
--- a frame that is handed in, with the names in its header, where there are some
-abbrev pub frame_event : ℕ → Option HeaderNames → List ℕ → Event
-frame_event device None frame = Send device frame
-frame_event device (Some names) frame = SendNamed device names frame
+-- `at T send NAME FRAME`, `at T send NAME attempts N FRAME`; the frame is all that stands after, and its first word has this number
+abbrev pub send_read : Notes → ℕ → ℕ → Option ℕ → Option (Option ℕ) → Option ℕ → Option (Option HeaderNames) → Result (List ℕ) (AtWord ScriptCause) → Result Notes (AtWord ScriptCause)
+send_read notes line at None attempts device names frame = Err (at_word 1 Number)
+send_read notes line at (Some time) None device names frame = Err (at_word 5 Number)
+send_read notes line at (Some time) (Some attempts) None names frame = Err (at_word 3 Name)
+send_read notes line at (Some time) (Some attempts) (Some device) None frame = Err (at_word at Name)
+send_read notes line at (Some time) (Some attempts) (Some device) (Some names) (Err fault) = Err fault
+send_read notes line at (Some time) (Some attempts) (Some device) (Some names) (Ok frame) = notes_with_event notes line time (frame_event device (record { line = line; attempts = attempts }) names frame)
 
--- `at T send NAME FRAME`; the frame's text is all that stands after the name, and in its header names may stand
-abbrev pub send_read : Notes → ℕ → Option ℕ → Option ℕ → Option (Option HeaderNames) → Result (List ℕ) AssembleError → Result Notes (AtWord ScriptCause)
-send_read notes line None device names frame = Err (at_word 1 Number)
-send_read notes line (Some time) None names frame = Err (at_word 3 Name)
-send_read notes line (Some time) (Some device) None frame = Err (at_word 4 Name)
-send_read notes line (Some time) (Some device) (Some names) (Err cause) = Err (at_word (4 + frame_word cause) (Frame cause))
-send_read notes line (Some time) (Some device) (Some names) (Ok frame) = notes_with_event notes line time (frame_event device names frame)
+-- what is handed in after the name; where a frame's text has names in its header, they stand in its first word
+abbrev pub IsHandedRead : List Node → Notes → ℕ → List ℕ → List ℕ → ℕ → Option (Option ℕ) → List (List ℕ) → Result Notes (AtWord ScriptCause) → Type 0
+IsHandedRead tree notes line time name at attempts [] read = read ≡ Err (at_word at Word)
+IsHandedRead tree notes line time name at attempts (word ∷ words) read =
+    (frame : Result (List ℕ) (AtWord ScriptCause))
+    × IsFrameRead at (word ∷ words) frame
+    × (read ≡ send_read notes line at (time_of time) attempts (device_named tree name) (header_names tree word) frame)
 
 abbrev pub IsSendRead : List Node → Notes → ℕ → List ℕ → List (List ℕ) → Result Notes (AtWord ScriptCause) → Type 0
 IsSendRead tree notes line time [] read = read ≡ Err (at_word 3 Word)
-IsSendRead tree notes line time (name ∷ []) read = read ≡ Err (at_word 4 Word)
-IsSendRead tree notes line time (name ∷ word ∷ words) read =
-    (frame : Result (List ℕ) AssembleError)
-    × IsFrameOf (digits_text (word ∷ words)) frame
-    × (read ≡ send_read notes line (time_of time) (device_named tree name) (header_names tree word) frame)
+IsSendRead tree notes line time (name ∷ words) read =
+    IsHandedRead tree notes line time name (handed_in words).at (handed_in words).attempts (handed_in words).words read
 
 -- the words after `at`
 abbrev pub IsEventRead : List Node → Notes → ℕ → List (List ℕ) → Result Notes (AtWord ScriptCause) → Type 0

@@ -1,10 +1,12 @@
 //! The word of what a device from outside holds.
-ghost use Rattle.std.specs.Prelude.{◌≡◌};
-ghost use Rattle.room_script.specs.Holding.{hold_of, is_address, is_pair};
+ghost use Rattle.std.specs.Prelude.{◌≡◌, ◌==◌};
+ghost use Rattle.std.specs.List.{list_any};
+ghost use Rattle.text_core.specs.Phys.{digit_value};
+ghost use Rattle.room_script.specs.Holding.{address_at, are_addresses, hold_of, is_address};
 
-use device_core::Act;
+use device_core::{Act, MoreHeld};
 use line_frames::Addr;
-use text_core::{digit_value, is_hex_digit};
+use text_core::{byte_at, digit_value, is_hex_digit};
 
 fn is_address(byte: u8) -> bool
     ensures { result ≡ is_address byte }
@@ -12,13 +14,44 @@ fn is_address(byte: u8) -> bool
     is_hex_digit(byte) && byte < b'f'
 }
 
-fn is_pair(first: u8, plus: u8, second: u8) -> bool
-    ensures { result ≡ is_pair first plus second }
+fn is_among(digit: u8, word: &[u8]) -> bool
+    ensures { result ≡ list_any (λ other. other == digit) word.now }
 {
-    is_address(first) && plus == b'+' && is_address(second) && first != second
+    word.iter().any(|other| *other == digit)
 }
 
-/// What the word says: `-`, or one or two logical addresses.
+/// Whether a word is addresses with a plus between, none of which stands twice.
+fn are_addresses(word: &[u8]) -> bool
+    ensures { result ≡ are_addresses word.now }
+{
+    match word {
+        [] => false,
+        [digit] => is_address(*digit),
+        [digit, plus, rest @ ..] => {
+            is_address(*digit) && *plus == b'+' && !is_among(*digit, rest) && are_addresses(rest)
+        }
+    }
+}
+
+/// The address of a digit, below 15.
+fn address_of(byte: u8) -> Addr
+    ensures { result ≡ digit_value byte }
+{
+    Addr::new(digit_value(byte))
+}
+
+/// The address at a place, where the word is so long.
+fn address_at(word: &[u8], place: usize) -> Option<Addr>
+    ensures { result ≡ address_at word.now place }
+{
+    if place < word.len() {
+        Some(address_of(byte_at(word, place)))
+    } else {
+        None
+    }
+}
+
+/// What the word says: `-`, or one to four different logical addresses.
 pub fn hold_in(word: &[u8]) -> Option<Act>
     ensures { result ≡ hold_of word.now }
 {
@@ -26,19 +59,21 @@ pub fn hold_in(word: &[u8]) -> Option<Act>
         return Some(Act::Hold {
             first: Addr::new(15),
             second: None,
+            more: MoreHeld {
+                third: None,
+                fourth: None,
+            },
         });
     }
-    if word.len() == 1 && is_address(word[0]) {
-        return Some(Act::Hold {
-            first: Addr::new(digit_value(word[0])),
-            second: None,
-        });
+    if word.len() > 7 || !are_addresses(word) {
+        return None;
     }
-    if word.len() == 3 && is_pair(word[0], word[1], word[2]) {
-        return Some(Act::Hold {
-            first: Addr::new(digit_value(word[0])),
-            second: Some(Addr::new(digit_value(word[2]))),
-        });
-    }
-    None
+    Some(Act::Hold {
+        first: address_of(byte_at(word, 0)),
+        second: address_at(word, 2),
+        more: MoreHeld {
+            third: address_at(word, 4),
+            fourth: address_at(word, 6),
+        },
+    })
 }

@@ -10,6 +10,7 @@ mod keys;
 mod laws;
 mod pin;
 mod script;
+mod sending;
 mod topology;
 
 pub use course::Script;

@@ -4,24 +4,22 @@ ghost use Rattle.std.specs.Option.{option_copied};
 ghost use Rattle.line_wave.specs.Bounds.{latest_event};
 ghost use Rattle.line_wave.specs.Pulls.{are_timely};
 ghost use Rattle.text_core.specs.Words.{words_of, words_after, one_of, two_of, three_of};
-ghost use Rattle.room_script.specs.Header.{digits_text, header_names};
-ghost use Rattle.room_script.specs.Script.{no_notes, notes_of, course_of, time_of, last_time, last_end, notes_with_event, plug_words, unplug_words, key_words, act_read, hold_words, drop_words, event_words, send_read, frame_event, pulse_fault, pulse_refusal, notes_with_pulse, span_words, pulse_words, touches, notes_with_pull, pull_words, end_words, other_words, course_at_end, error_at, IsFrameOf, IsSendRead, IsEventRead, IsLineRead, GivesNotes, Gives, GivesCourse, GivesScript, IsScript};
+ghost use Rattle.room_script.specs.Script.{no_notes, notes_of, course_of, time_of, last_time, last_end, notes_with_event, plug_words, unplug_words, key_words, act_read, hold_words, drop_words, event_words, pulse_fault, pulse_refusal, notes_with_pulse, span_words, pulse_words, touches, notes_with_pull, pull_words, end_words, other_words, course_at_end, error_at, IsEventRead, IsLineRead, GivesNotes, Gives, GivesCourse, GivesScript, IsScript};
 
 use crate::course::Script;
 use crate::fault::misfit;
-use crate::header::{has_names, header_names, text_with_digits};
 use crate::holding::hold_in;
 use crate::keys::key_in;
 use crate::pin::{end_pull, take_pin};
+use crate::sending::take_send;
 use crate::topology::Topology;
 use device_core::Act;
 use edid_tree::Tree;
-use line_frames::Frame;
 use line_wave::{
     LATEST_EVENT, MOST_PULLS, MOST_PULSES, PulsesError, Stretch, WIDEST_PULL, stretch_fault,
 };
-use message_text::{AssembleError, assemble, frame_word, frames_are_whole};
-use room_event::{Event, HeaderNames};
+use message_text::AssembleError;
+use room_event::Event;
 use std::alloc::{AllocError, AllocFailed, Global};
 use std::fmt::{self, Write};
 use text_core::{
@@ -38,12 +36,14 @@ const WIDEST_COUNTED: u64 = 65_535;
 pub enum ScriptCause {
     /// No such line, no such key, or no such addresses.
     Word,
-    /// An ill-formed number, or a time past 1,000,000,000,000.
+    /// An ill-formed number, a time past 1,000,000,000,000, or another number of attempts than 1 to 6.
     Number,
     /// No device of the topology, also in the header of a frame.
     Name,
     /// No text of a frame, and why.
     Frame(AssembleError),
+    /// No bytes of a frame in hex.
+    Hex,
     /// A pulse that is not 1 to 10,000 microseconds wide, or a pull that is not 1 to 10,000,000.
     Width,
     /// A time before that of the event above, a pulse that begins before the end of the pulse or pull above, a pull that
@@ -69,6 +69,7 @@ impl fmt::Display for ScriptCause {
             ScriptCause::Number => f.write_str("number"),
             ScriptCause::Name => f.write_str("name"),
             ScriptCause::Frame(cause) => write!(f, "frame {cause}"),
+            ScriptCause::Hex => f.write_str("hex"),
             ScriptCause::Width => f.write_str("width"),
             ScriptCause::Order => f.write_str("order"),
             ScriptCause::Close => f.write_str("close"),
@@ -133,7 +134,7 @@ pub struct ScriptDraft {
     pub pulses: Vec<Stretch>,
     pub end: Option<u64>,
     pub pin: Option<u64>,
-    alloc: Global,
+    pub(crate) alloc: Global,
 }
 
 impl ScriptDraft {
@@ -207,16 +208,16 @@ pub(crate) fn last_end(pulses: &[Stretch]) -> Option<u64>
 
 /// What a line of an event says beside the verb.
 #[derive(Clone, Copy)]
-struct EventWords<'t> {
+pub(crate) struct EventWords<'t> {
     /// The line's number.
-    line: u64,
+    pub(crate) line: u64,
     /// The word of its time.
-    time: &'t [u8],
+    pub(crate) time: &'t [u8],
     /// What stands after the verb.
-    rest: Option<&'t [u8]>,
+    pub(crate) rest: Option<&'t [u8]>,
 }
 
-fn schedule(
+pub(crate) fn schedule(
     draft: &mut ScriptDraft,
     line: u64,
     time: u64,
@@ -378,102 +379,6 @@ fn take_drop(
     let act = Some(Act::Empty);
     let time = time_in(words.time);
     schedule_act(draft, words.line, act, time, tree.device_named(device))
-}
-
-/// The frame of a text, or why it is none's.
-fn read_frame(text: &[u8]) -> Result<Frame, AssembleError>
-    ensures { IsFrameOf text.now result }
-{
-    match assemble(text) {
-        Ok(frame) => {
-            frames_are_whole(&frame);
-            Ok(frame)
-        }
-        Err(cause) => Err(cause),
-    }
-}
-
-/// The frame of a text in whose header names may stand, with 0 in the place of each, or why it is none's.
-fn frame_in(alloc: Global, text: &[u8]) -> Result<Result<Frame, AssembleError>, AllocError>
-    ensures { IfOk result (λ frame. IsFrameOf (digits_text (words_of text.now)) frame) }
-{
-    let (word, others) = first_word(text);
-    if !has_names(word) {
-        return Ok(read_frame(text));
-    }
-    let text = text_with_digits(alloc, word, others)?;
-    Ok(read_frame(&text))
-}
-
-/// The event of a frame that is handed in.
-fn frame_event(device: usize, names: Option<HeaderNames>, frame: Frame) -> Event
-    ensures { result ≡ frame_event device names frame }
-{
-    match names {
-        None => Event::Send { device, frame },
-        Some(names) => Event::SendNamed {
-            device,
-            names,
-            frame,
-        },
-    }
-}
-
-fn schedule_frame(
-    draft: &mut ScriptDraft,
-    line: u64,
-    time: Option<u64>,
-    device: Option<usize>,
-    names: Option<Option<HeaderNames>>,
-    frame: Result<Frame, AssembleError>,
-) -> Result<(), ScriptLineError>
-    ensures gives { GivesNotes (notes_of draft.new) result (send_read (notes_of draft.old) line time device names frame) }
-    ensures kept { OnErr result (notes_of draft.new ≡ notes_of draft.old) }
-{
-    let Some(time) = time else {
-        return Err(ScriptLineError::Fault(at_word(1, ScriptCause::Number)));
-    };
-    let Some(device) = device else {
-        return Err(ScriptLineError::Fault(at_word(3, ScriptCause::Name)));
-    };
-    let Some(names) = names else {
-        return Err(ScriptLineError::Fault(at_word(4, ScriptCause::Name)));
-    };
-    match frame {
-        Ok(frame) => schedule(draft, line, time, frame_event(device, names, frame)),
-        Err(cause) => Err(ScriptLineError::Fault(at_word(
-            4 + frame_word(cause),
-            ScriptCause::Frame(cause),
-        ))),
-    }
-}
-
-/// Takes the words after `at T send`: a name, and after it a frame's text, spaces and all, in whose header names may stand.
-fn take_send(
-    tree: &Tree<15>,
-    draft: &mut ScriptDraft,
-    words: EventWords<'_>,
-) -> Result<(), ScriptLineError>
-    ensures gives { Gives (notes_of draft.new) result (IsSendRead tree.now (notes_of draft.old) words.entry.line words.entry.time.now (words_after (option_copied words.entry.rest))) }
-    ensures kept { OnErr result (notes_of draft.new ≡ notes_of draft.old) }
-{
-    let Some(rest) = words.rest else {
-        return Err(ScriptLineError::Fault(at_word(3, ScriptCause::Word)));
-    };
-    let (name, frame) = first_word(rest);
-    let Some(frame) = frame else {
-        return Err(ScriptLineError::Fault(at_word(4, ScriptCause::Word)));
-    };
-    let (header, _others) = first_word(frame);
-    let read = frame_in(draft.alloc, frame)?;
-    schedule_frame(
-        draft,
-        words.line,
-        time_in(words.time),
-        tree.device_named(name),
-        header_names(tree, header),
-        read,
-    )
 }
 
 fn pulse_fault(fault: PulsesError) -> AtWord<ScriptCause>
@@ -740,7 +645,8 @@ pub fn error_at(line: u64, error: ScriptLineError) -> ScriptError
 
 /// Reads a script for the devices of a topology: lines `at T EVENT`, `pulse T WIDTH`, `pull T WIDTH`, `pin T LEVEL` and last
 /// `end T`, where EVENT is `plug CHILD PARENT PORT`, `unplug CHILD`, `press NAME KEY`, `release NAME KEY`, `send NAME FRAME`, `hold NAME ADDRS`
-/// or `drop NAME`; in the header of a FRAME `@NAME` may stand in the place of an address; empty lines and lines that begin with `#` are skipped. Times are microseconds. Those of events do not go back and are before
+/// or `drop NAME`; in the header of a FRAME `@NAME` may stand in the place of an address, and a FRAME may be `hex` and its bytes, with
+/// `attempts N` before it or not; empty lines and lines that begin with `#` are skipped. Times are microseconds. Those of events do not go back and are before
 /// the end; pulses and pulls are in order, and none touches another. A device's number is below the count of devices, and no frame
 /// is empty.
 ///

@@ -1,35 +1,31 @@
 -- The lines of a trace are those of its records.
-use Rattle.std.proofs.Common.{◌≡◌, ℕ, ◌%◌, Bool, true, false, codes, List, [], ◌∷◌, ◌++◌, Option, Some, None, map, cond, if◌then◌else◌, length, append_assoc, append-nil, refl, sym, ap, ap₂, subst, ◌∙◌}
+use Rattle.std.proofs.Common.{◌≡◌, ℕ, Bool, true, false, codes, List, [], ◌∷◌, ◌++◌, Option, Some, None, map, if◌then◌else◌, append_assoc, append-nil, refl, sym, ap, ap₂, subst, ◌∙◌}
 use Rattle.std.proofs.lemmas.Grind.{flat_map-append}
-use Rattle.std.specs.Fmt.{decimal}
 use Rattle.std.specs.List.{concat, flat_map}
 use Rattle.text_core.specs.Adds.{Adds, Tally}
-use Rattle.text_core.specs.Kind.{kind_word}
 use Rattle.text_core.specs.Piece.{piece_text}
 use Rattle.text_core.specs.declared.kind.Kind.{Kind}
 use Rattle.text_core.specs.declared.kind.Kind.TheVariants.{Amp, Combo, Outside, OutsideTv, Player, Recorder, Switch, Tv}
-use Rattle.line_rounds.specs.declared.Loser.{Loser}
 use Rattle.line_rounds.specs.declared.Outcome.{Outcome}
-use Rattle.device_core.specs.State.{State, addresses_held}
+use Rattle.device_core.specs.State.{State, addresses_held, held_by}
 use Rattle.device_core.specs.declared.place.Place.{Place}
 use Rattle.device_core.specs.declared.place.Place.TheVariants.{Off, Polls, Settled}
 use Rattle.device_features.specs.Kinds.{is_outside}
 use Rattle.device_features.specs.declared.record.HeardReport.{HeardReport}
 use Rattle.room_event.specs.declared.event.EventError.{EventError}
-use Rattle.message_text.specs.ReadingText.{reading_text}
 use Rattle.reading_record.specs.Reading.{reading_cells}
 use Rattle.reading_record.proofs.Same.{same}
 use Rattle.record_core.specs.Cells.{PlainCell, PlainValue, joined, listed, rest_joined}
-use Rattle.record_core.specs.Records.{line_of, object_of, record_text, said, word_text}
-use Rattle.record_core.specs.Values.{out, pieces, plain, string, words}
+use Rattle.record_core.specs.Records.{line_of, record_text, said, word_text}
+use Rattle.record_core.specs.Values.{pieces, plain, words}
 use Rattle.record_core.specs.declared.cell.Form.{Form}
 use Rattle.record_core.specs.declared.cell.Form.TheVariants.{Text, Json}
 use Rattle.record_core.proofs.Parts.{parted}
-use Rattle.room_trace.specs.StateText.{address_text, held_text, language_bytes, note_text, outside_line, state_line, state_line_of, unit_text}
+use Rattle.room_trace.specs.StateText.{address_text, held_text, language_bytes, more_text, note_text, outside_line, state_line, state_line_of, unit_text}
 use Rattle.text_core.specs.Piece.{dash_or}
 use Rattle.room_trace.specs.TraceText.{comma_list, end_line, event_line, loser_text, name_at, round_line}
 use Rattle.room_trace.specs.PortText.{PortLinesAreRecords, port_cells}
-use Rattle.room_trace.specs.Records.{Lines, LinesAreRecords, by_form, end_cells, event_cells, heard_parts, heard_value, held_units, outside_cells, round_cells, seat_cells, state_cells, state_cells_of, unit_pieces, units_of}
+use Rattle.room_trace.specs.Records.{LinesAreRecords, by_form, end_cells, event_cells, heard_value, held_units, outside_cells, round_cells, seat_cells, some_units, state_cells, state_cells_of, unit_pieces, units_of}
 
 -- ---- a record whose line this is
 
@@ -103,20 +99,19 @@ units_same Switch a b = append-nil (unit_text a)
 units_same Outside a b = append-nil (unit_text a)
 units_same OutsideTv a b = append-nil (unit_text a)
 
-held_same : (a b : Option ℕ) → joined piece_text (codes "+") (unit_pieces (held_units (a ∷ b ∷ []))) ≡ held_text (a ∷ b ∷ [])
-held_same a None = append-nil (unit_text a)
-held_same a (Some b) =
-    ap (λ (t : List ℕ). unit_text a ++ t) (append-nil (codes "+" ++ unit_text (Some b))) ∙ sym (append_assoc (unit_text a) (codes "+") (unit_text (Some b)))
+more_same : (units : List (Option ℕ)) → rest_joined piece_text (codes "+") (unit_pieces (some_units units)) ≡ flat_map more_text units
+more_same [] = refl
+more_same (None ∷ units) = more_same units
+more_same (Some a ∷ units) = ap (λ (t : List ℕ). (codes "+" ++ unit_text (Some a)) ++ t) (more_same units)
 
 address_same : (kind : Kind) (place : Place) → joined piece_text (codes "+") (unit_pieces (units_of kind (addresses_held place))) ≡ address_text kind (addresses_held place)
 address_same kind Off = units_same kind None None
 address_same kind (Polls found a) = units_same kind found None
 address_same kind (Settled first second) = units_same kind (Some first) second
 
-outside_same : (place : Place) → joined piece_text (codes "+") (unit_pieces (held_units (addresses_held place))) ≡ held_text (addresses_held place)
-outside_same Off = held_same None None
-outside_same (Polls found a) = held_same found None
-outside_same (Settled first second) = held_same (Some first) second
+outside_same : (units : List (Option ℕ)) → joined piece_text (codes "+") (unit_pieces (held_units units)) ≡ held_text units
+outside_same [] = refl
+outside_same (first ∷ others) = ap (λ (t : List ℕ). unit_text first ++ t) (more_same others)
 
 heard_same : (heard : Option HeardReport) → (heard_value heard).word ≡ dash_or note_text heard
 heard_same None = refl
@@ -124,7 +119,7 @@ heard_same (Some note) = refl
 
 abbrev cells_if : Bool → State → List PlainCell
 cells_if is d =
-    if is then outside_cells d (pieces (codes "+") (unit_pieces (held_units (addresses_held d.place))))
+    if is then outside_cells d (pieces (codes "+") (unit_pieces (held_units (held_by d))))
     else state_cells_of d (pieces (codes "+") (unit_pieces (units_of d.kind (addresses_held d.place)))) (language_bytes d.record_of.language) (heard_value d.record_of.heard)
 
 -- by whether it is a device from outside
@@ -132,13 +127,13 @@ pub adds_state : (form : Form) (d : State) (a b : Tally) (is : Bool) → is_outs
 adds_state form d a b is e adds = subst (λ (t : Bool). Adds a b (record_text form (codes "state") (cells_if t d))) (sym e) adds
 
 state_by : (is : Bool) (d : State)
-    → line_of (if is then outside_cells d (pieces (codes "+") (unit_pieces (held_units (addresses_held d.place))))
+    → line_of (if is then outside_cells d (pieces (codes "+") (unit_pieces (held_units (held_by d))))
     else state_cells_of d (pieces (codes "+") (unit_pieces (units_of d.kind (addresses_held d.place)))) (language_bytes d.record_of.language) (heard_value d.record_of.heard))
-    ≡ (if is then outside_line d (held_text (addresses_held d.place))
+    ≡ (if is then outside_line d (held_text (held_by d))
     else state_line_of d (address_text d.kind (addresses_held d.place)) (language_bytes d.record_of.language) (dash_or note_text d.record_of.heard))
 state_by true d =
-    parted (outside_cells d (pieces (codes "+") (unit_pieces (held_units (addresses_held d.place)))))
-    ∙ ap (outside_line d) (outside_same d.place)
+    parted (outside_cells d (pieces (codes "+") (unit_pieces (held_units (held_by d)))))
+    ∙ ap (outside_line d) (outside_same (held_by d))
 state_by false d =
     parted (state_cells_of d (pieces (codes "+") (unit_pieces (units_of d.kind (addresses_held d.place)))) (language_bytes d.record_of.language) (heard_value d.record_of.heard))
     ∙ ap₂ (λ (address heard : List ℕ). state_line_of d address (language_bytes d.record_of.language) heard) (address_same d.kind d.place) (heard_same d.record_of.heard)

@@ -3,3 +3,4 @@ pub mod TraceText
 pub mod PortText
 pub mod Records
 pub mod Room
+pub mod Notes

@@ -1,8 +1,7 @@
 -- The lines of a trace as records (own).
-use Rattle.std.specs.Prelude.{◌≡◌, ℕ, ◌%◌, if◌then◌else◌, List, [], ◌∷◌, ◌++◌, Option, Some, None, codes, map, length}
-use Rattle.line_rounds.specs.declared.Loser.{Loser}
+use Rattle.std.specs.Prelude.{◌≡◌, ℕ, if◌then◌else◌, List, [], ◌∷◌, ◌++◌, Option, Some, None, codes, map, length}
 use Rattle.line_rounds.specs.declared.Outcome.{Outcome}
-use Rattle.device_core.specs.State.{State, addresses_held}
+use Rattle.device_core.specs.State.{State, addresses_held, held_by}
 use Rattle.device_core.specs.Place.{is_on_wire}
 use Rattle.device_features.specs.Kinds.{is_outside}
 use Rattle.device_features.specs.declared.record.HeardReport.{HeardReport}
@@ -81,10 +80,14 @@ units_of Combo (first ∷ second ∷ _) = first ∷ second ∷ []
 units_of _ (first ∷ _) = first ∷ []
 units_of _ [] = []
 
+abbrev pub some_units : List (Option ℕ) → List (Option ℕ)
+some_units [] = []
+some_units (None ∷ units) = some_units units
+some_units (Some a ∷ units) = Some a ∷ some_units units
+
 abbrev pub held_units : List (Option ℕ) → List (Option ℕ)
-held_units (first ∷ Some second ∷ _) = first ∷ Some second ∷ []
-held_units (first ∷ _) = first ∷ []
 held_units [] = []
+held_units (first ∷ others) = first ∷ some_units others
 
 abbrev pub unit_pieces : List (Option ℕ) → List Piece
 unit_pieces units = map (λ unit. NibbleOrDash unit) units
@@ -137,7 +140,7 @@ outside_cells d units =
 
 abbrev pub state_cells : State → List PlainCell
 state_cells d =
-    if is_outside d.kind then outside_cells d (pieces (codes "+") (unit_pieces (held_units (addresses_held d.place))))
+    if is_outside d.kind then outside_cells d (pieces (codes "+") (unit_pieces (held_units (held_by d))))
     else state_cells_of d (pieces (codes "+") (unit_pieces (units_of d.kind (addresses_held d.place)))) (language_bytes d.record_of.language) (heard_value d.record_of.heard)
 
 abbrev pub state_text : Form → State → List ℕ

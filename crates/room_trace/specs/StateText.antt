@@ -10,7 +10,7 @@ use Rattle.text_core.specs.Piece.{nibble_text, hex_text, hex_or_dash, phys_text,
 use Rattle.message_table.specs.declared.message.Triple.{Triple}
 use Rattle.message_table.specs.DeckWords.{deck_info_byte}
 use Rattle.device_features.specs.declared.record.HeardReport.{HeardReport}
-use Rattle.device_core.specs.State.{State, addresses_held}
+use Rattle.device_core.specs.State.{State, addresses_held, held_by}
 use Rattle.device_core.specs.Place.{is_on_wire}
 use Rattle.device_features.specs.Kinds.{is_outside}
 use Rattle.std.specs.Prelude.{length}
@@ -52,11 +52,15 @@ state_line_of d address language heard = concat (
     ∷ codes " heard=" ∷ heard ∷ codes " sub=" ∷ dash_or (λ n. nibble_text (n % 16)) d.record_of.sub
     ∷ codes " queue=" ∷ decimal (length d.queue) ∷ codes " dropped=" ∷ decimal d.dropped ∷ codes "\n" ∷ [])
 
+-- one more address of a device from outside
+abbrev pub more_text : Option ℕ → List ℕ
+more_text None = []
+more_text (Some a) = codes "+" ++ unit_text (Some a)
+
 -- those that a device from outside holds
 abbrev pub held_text : List (Option ℕ) → List ℕ
-held_text (first ∷ Some second ∷ _) = unit_text first ++ codes "+" ++ unit_text (Some second)
-held_text (first ∷ _) = unit_text first
-held_text [] = []
+held_text [] = codes "-"
+held_text (first ∷ others) = unit_text first ++ flat_map more_text others
 
 -- the line of a device from outside, with a text in the place of its record, up to the length of its queue
 abbrev pub outside_line_of : State → List ℕ → List ℕ → List ℕ
@@ -71,5 +75,5 @@ outside_line d address =
 
 abbrev pub state_line : State → List ℕ
 state_line d =
-    if is_outside d.kind then outside_line d (held_text (addresses_held d.place))
+    if is_outside d.kind then outside_line d (held_text (held_by d))
     else state_line_of d (address_text d.kind (addresses_held d.place)) (language_bytes d.record_of.language) (dash_or note_text d.record_of.heard)

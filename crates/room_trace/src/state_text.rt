@@ -1,12 +1,13 @@
 //! The line that reports the state of a device, or its object.
-ghost use Rattle.std.specs.Prelude.{◌≡◌, ◌∷◌, [], Some, None, codes, map};
+ghost use Rattle.std.specs.Prelude.{◌≡◌, ◌+◌, ◌≤◌, ◌++◌, ◌∷◌, [], Some, None, codes, length, map};
 ghost use Rattle.text_core.specs.Adds.{Adds};
 ghost use Rattle.text_core.specs.Cut.{WrittenText};
-ghost use Rattle.device_core.specs.State.{addresses_held};
+ghost use Rattle.arrayvec.specs.ArrayVec.{array_vec_len};
+ghost use Rattle.device_core.specs.State.{addresses_held, held_by};
 ghost use Rattle.record_core.specs.Cells.{plain_of};
 ghost use Rattle.record_core.specs.Records.{record_text};
 ghost use Rattle.record_core.specs.Values.{pieces};
-ghost use Rattle.room_trace.specs.Records.{heard_value, held_units, outside_cells, parts_value, state_cells, state_cells_of, state_text, unit_pieces, units_of};
+ghost use Rattle.room_trace.specs.Records.{heard_value, held_units, outside_cells, parts_value, some_units, state_cells, state_cells_of, state_text, unit_pieces, units_of};
 ghost use Rattle.room_trace.specs.StateText.{language_bytes, phys_on, power_text, state_line};
 
 use arrayvec::ArrayVec;
@@ -61,20 +62,34 @@ fn units_of(kind: Kind, held: [Option<Addr>; 2]) -> ArrayVec<Piece<'static>, 2>
     units
 }
 
-// The logical addresses that a device from outside holds.
-fn held_units(held: [Option<Addr>; 2]) -> ArrayVec<Piece<'static>, 2>
-    ensures { result.items ≡ unit_pieces (held_units held) }
+// Adds the addresses that there are.
+fn add_units(units: &mut ArrayVec<Piece<'static>, 4>, held: &[Option<Addr>])
+    requires room { array_vec_len units.old + length held.now ≤ 4 }
+    ensures { units.new.items ≡ units.old.items ++ unit_pieces (some_units held.now) }
 {
-    let [first, second] = held;
-    let mut units = ArrayVec::new();
-    units.push(Piece::NibbleOrDash(number_of(first)));
-    match second {
-        None => units,
+    let [first, others @ ..] = held else {
+        return;
+    };
+    match first {
+        None => add_units(units, others),
         Some(address) => {
             units.push(Piece::NibbleOrDash(Some(address.value())));
-            units
+            add_units(units, others);
         }
     }
+}
+
+// The logical addresses that a device from outside holds.
+fn held_units(held: &[Option<Addr>]) -> ArrayVec<Piece<'static>, 4>
+    requires few { length held.now ≤ 4 }
+    ensures { result.items ≡ unit_pieces (held_units held.now) }
+{
+    let mut units = ArrayVec::new();
+    if let [first, others @ ..] = held {
+        units.push(Piece::NibbleOrDash(number_of(*first)));
+        add_units(&mut units, others);
+    }
+    units
 }
 
 // The last report that was heard: initiator, opcode and first operand in hex.
@@ -229,9 +244,9 @@ fn outside_cells<'a>(device: &'a Device<16>, units: &'a [Piece<'a>]) -> [Cell<'a
 
 // Adds the record of the state of a device from outside.
 fn add_outside<S: Sink>(out: &mut Counted<'_, S>, form: Form, device: &Device<16>)
-    ensures { Adds out.old out.new (record_text form (codes "state") (outside_cells device.now (pieces (codes "+") (unit_pieces (held_units (addresses_held device.now.place)))))) }
+    ensures { Adds out.old out.new (record_text form (codes "state") (outside_cells device.now (pieces (codes "+") (unit_pieces (held_units (held_by device.now)))))) }
 {
-    let units = held_units(device.held());
+    let units = held_units(&device.all_held());
     add_record(out, form, "state", &outside_cells(device, &units));
 }
 

@@ -2,7 +2,7 @@
 ghost use Rattle.std.specs.Prelude.{◌↔◌, ◌<◌, [], IfSome, IsTrue};
 
 use crate::rooms::{LATEST, replug, room, round_before};
-use device_core::{Act, SubmitError};
+use device_core::{Act, MoreHeld, SubmitError, Ticket};
 use line_frames::{Addr, Frame};
 use line_wire::EdgeWire;
 use room_net::{Event, EventError, HeaderNames, Net};
@@ -91,6 +91,10 @@ fn sent(
             device,
             names,
             frame,
+            ticket: Ticket {
+                line: 0,
+                attempts: None,
+            },
         },
     ))
 }
@@ -130,6 +134,10 @@ fn holds(
     let act = Act::Hold {
         first,
         second: Some(second),
+        more: MoreHeld {
+            third: None,
+            fourth: None,
+        },
     };
     net.apply(at, Event::Outside { device, act }).is_ok()
 }

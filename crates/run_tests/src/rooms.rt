@@ -1,6 +1,7 @@
 //! Networks of a television and devices in its first ports.
 ghost use Rattle.std.specs.Prelude.{◌≤◌, ◌<◌, All};
 
+use device_core::Ticket;
 use edid_tree::Tree;
 use line_frames::Frame;
 use line_wave::{Pulses, Stretch};
@@ -85,5 +86,13 @@ pub(crate) fn replug(rt: &impl Abort, net: &mut Net<EdgeWire>, at: u64, child: u
 pub(crate) fn send(rt: &impl Abort, net: &mut Net<EdgeWire>, at: u64, device: usize, bytes: &[u8]) {
     assert!(rt; at <= LATEST && device < net.tree().count());
     let frame = Frame::new(bytes).expect(rt, "a frame");
-    assert!(rt; net.apply(at, Event::Send { device, frame }).is_ok());
+    let event = Event::Send {
+        device,
+        frame,
+        ticket: Ticket {
+            line: 0,
+            attempts: None,
+        },
+    };
+    assert!(rt; net.apply(at, event).is_ok());
 }

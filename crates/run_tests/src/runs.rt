@@ -120,6 +120,40 @@ const SENDS: &[Run] = &[
              state tv tv 0 0.0.0.0 ",
     },
     Run {
+        what: "four attempts, as many as it is given",
+        place: Extent::Within,
+        topology: TWO,
+        script: "at 1000000 send p1 attempts 4 4>8 give-osd-name\nend 1300000\n",
+        lines: "1000000 1028851 silent 0100100001 by - out p1@10\n\
+             1033900 1062751 silent 0100100001 by - out p1@10\n\
+             1067800 1096651 silent 0100100001 by - out p1@10\n\
+             1101700 1130551 silent 0100100001 by - out p1@10\n\
+             state tv tv 0 0.0.0.0 ",
+    },
+    Run {
+        what: "a poll with two attempts",
+        place: Extent::Within,
+        topology: TWO,
+        script: "at 1000000 send p1 attempts 2 4>8\nend 1300000\n",
+        lines: "1000000 1027150 complete 4>8 nack by p1 out -\n\
+             1033900 1061050 complete 4>8 nack by p1 out -\nstate tv tv 0 0.0.0.0 ",
+    },
+    Run {
+        what: "a lost arbitration is an attempt",
+        place: Extent::Within,
+        topology: TWO,
+        script: "at 1000000 send p1 attempts 1 4>0 image-view-on\n\
+             at 1000000 send tv 0>4 standby\nend 1300000\n",
+        lines: "1000000 1051150 complete 0>4 standby ack by tv out p1@2\nstate tv tv 0 0.0.0.0 ",
+    },
+    Run {
+        what: "a frame in hex",
+        place: Extent::Within,
+        topology: TWO,
+        script: "at 1000000 send p1 hex 40:04\nend 1300000\n",
+        lines: "1000000 event 1 ok\n1000000 1051150 complete 4>0 image-view-on ack by p1 out -\n",
+    },
+    Run {
         what: "a pulse at the end of the first attempt",
         place: Extent::Within,
         topology: TWO,
@@ -209,6 +243,22 @@ const NAMED: &[Run] = &[
         lines: "1000000 event 1 refused no-address\n1000000 event 2 ok\n1000000 event 3 ok\n\
              1000000 1051150 complete 8>0 image-view-on ack by dut out -\n\
              2000000 event 4 ok\n2000000 event 5 refused no-address\n",
+    },
+    Run {
+        what: "to the last of four addresses of a device from outside",
+        place: Extent::Within,
+        topology: SEAT,
+        script: "at 900000 hold dut 1+2+4+8\nat 1000000 send tv 0>8 standby\n\
+             at 1500000 send dut @dut>@tv image-view-on\nend 2000000\n",
+        lines: "1000000 1051150 complete 0>8 standby ack by tv out -\n1500000 event 3 ok\n\
+             1500000 1551150 complete 1>0 image-view-on ack by dut out -\n",
+    },
+    Run {
+        what: "four addresses in its state",
+        place: Extent::Within,
+        topology: SEAT,
+        script: "at 900000 hold dut 1+2+4+8\nend 1000000\n",
+        lines: "state dut outside 1+2+4+8 1.0.0.0 - active=- path=- ",
     },
     Run {
         what: "before it has an address, and off the wire",

@@ -1,5 +1,5 @@
 -- Each word that is taken in an expectation of a state stands in the state line of some device.
-use Rattle.std.proofs.Common.{◌≡◌, ℕ, ◌/◌, ◌%◌, ◌<◌, ◌≤◌, ◌^◌, nat_lt, inl, inr, true, false, codes, length, replicate, List, [], ◌∷◌, ◌++◌, Some, None, slice_get, refl, sym, ap, subst, ◌∙◌, arith, rules}
+use Rattle.std.proofs.Common.{◌≡◌, ℕ, ◌/◌, ◌%◌, ◌<◌, ◌≤◌, ◌^◌, nat_lt, inl, inr, true, false, codes, length, replicate, List, [], ◌∷◌, ◌++◌, Option, Some, None, slice_get, refl, sym, ap, subst, ◌∙◌, arith, rules}
 use Rattle.std.specs.Prelude.{decimal}
 use Rattle.std.specs.List.{flat_map}
 use Rattle.std.proofs.lemmas.List.{length-replicate}
@@ -28,7 +28,7 @@ use Rattle.device_core.specs.declared.place.Place.{Place}
 use Rattle.device_core.specs.declared.place.Place.TheVariants.{Off, Polls, Settled}
 use Rattle.room_trace.specs.StateText.{language_bytes, note_text}
 use Rattle.expect_text.specs.Parts.{IsTextOf}
-use Rattle.expect_text.specs.StateWords.{IsBare, IsDash, IsPair, IsStateWord, IsUnit, IsValue, key, note_parts, physical_parts, value_of}
+use Rattle.expect_text.specs.StateWords.{IsBare, IsDash, IsPair, IsStateWord, IsUnit, IsValue, four_parts, key, note_parts, physical_parts, three_parts, value_of}
 use Rattle.expect_text.specs.declared.part.Class.TheVariants.{Hex}
 use Rattle.expect_text.specs.declared.part.PatternPart.TheVariants.{One}
 use Rattle.expect_text.specs.declared.state_words.StateField.{StateField}
@@ -134,6 +134,7 @@ device kind place phys r queue dropped = record {
   number = 0;
   phys = phys;
   place = place;
+  more = record { third = None; fourth = None };
   record_of = r;
   queue = queue;
   attempts = 0;
@@ -221,7 +222,7 @@ osd_of (b ∷ bs) text h low high e =
     of_record r (record_sized r refl refl refl twenty tt refl h high refl refl) 14 (codes "osd=" ++ text) (ap (λ t. Some (codes "osd=" ++ t)) (sym e))
 
 abbrev waiting : Queued
-waiting = record { frame = 0 ∷ []; ready = 0 }
+waiting = record { frame = 0 ∷ []; ready = 0; ticket = None }
 
 queue_of : (n : ℕ) (text : List ℕ) → n ≤ 16 → text ≡ decimal n → IsOfSomeDevice (codes "queue=" ++ text)
 queue_of n text h e =
@@ -344,6 +345,57 @@ pair_said : (word : List ℕ) → IsPair word → IsOfSomeDevice word
 pair_said word (inl h) = subst IsOfSomeDevice (sym h.2) (pair_by h.0 h.1 h.3 h.4)
 pair_said word (inr h) = of_place Combo refl Off root refl 1 word (ap Some (sym h))
 
+-- a device from outside that holds these
+abbrev holder : ℕ → ℕ → ℕ → Option ℕ → State
+holder n m k fourth = record (device Outside (Settled n (Some m)) root plain [] 0) { more = record { third = Some k; fourth = fourth } }
+
+holder_is : (n m k : ℕ) (fourth : Option ℕ) → IsSized (holder n m k fourth)
+holder_is n m k fourth =
+    let s = device_sized Outside (Settled n (Some m)) root plain [] 0 refl plain_is few none in record { phys = s.phys; record_of = s.record_of; queue = s.queue; dropped = s.dropped }
+
+three_digits : (n m k : ℕ) → n < 16 → m < 16 → k < 16 → IsOfSomeDevice (nibble_text n ++ (43 ∷ (nibble_text m ++ (43 ∷ nibble_text k))))
+three_digits n m k a b c =
+    of_stranger (holder n m k None) refl (holder_is n m k None) 1 (nibble_text n ++ (43 ∷ (nibble_text m ++ (43 ∷ nibble_text k))))
+    (ap (λ x. Some (nibble_text x ++ (43 ∷ (nibble_text (m % 16) ++ (43 ∷ nibble_text (k % 16)))))) (itself n a) ∙ ap (λ x. Some (nibble_text n ++ (43 ∷ (nibble_text x ++ (43 ∷ nibble_text (k % 16)))))) (itself m b)
+    ∙ ap (λ x. Some (nibble_text n ++ (43 ∷ (nibble_text m ++ (43 ∷ nibble_text x))))) (itself k c))
+
+four_digits : (n m k l : ℕ) → n < 16 → m < 16 → k < 16 → l < 16 → IsOfSomeDevice (nibble_text n ++ (43 ∷ (nibble_text m ++ (43 ∷ (nibble_text k ++ (43 ∷ nibble_text l))))))
+four_digits n m k l a b c d =
+    of_stranger (holder n m k (Some l)) refl (holder_is n m k (Some l)) 1 (nibble_text n ++ (43 ∷ (nibble_text m ++ (43 ∷ (nibble_text k ++ (43 ∷ nibble_text l))))))
+    (ap (λ x. Some (nibble_text x ++ (43 ∷ (nibble_text (m % 16) ++ (43 ∷ (nibble_text (k % 16) ++ (43 ∷ nibble_text (l % 16)))))))) (itself n a)
+    ∙ ap (λ x. Some (nibble_text n ++ (43 ∷ (nibble_text x ++ (43 ∷ (nibble_text (k % 16) ++ (43 ∷ nibble_text (l % 16)))))))) (itself m b)
+    ∙ ap (λ x. Some (nibble_text n ++ (43 ∷ (nibble_text m ++ (43 ∷ (nibble_text x ++ (43 ∷ nibble_text (l % 16)))))))) (itself k c)
+    ∙ ap (λ x. Some (nibble_text n ++ (43 ∷ (nibble_text m ++ (43 ∷ (nibble_text k ++ (43 ∷ nibble_text x))))))) (itself l d))
+
+three_said : (word : List ℕ) → IsTextOf three_parts word → IsOfSomeDevice word
+three_said word h =
+    let b = h.4.2 in
+    let c = b.4.2 in
+    let n = nibble_of_text (h.0 ∷ []) (h.0, [], h.2, refl, refl) in
+    let m = nibble_of_text (b.0 ∷ []) (b.0, [], b.2, refl, refl) in
+    let k = nibble_of_text (c.0 ∷ []) (c.0, [], c.2, refl, refl) in
+    let whole : word ≡ h.0 ∷ 43 ∷ b.0 ∷ 43 ∷ c.0 ∷ [] =
+    h.3 ∙ ap (λ t. h.0 ∷ t) (h.4.1 ∙ ap (λ t. 43 ∷ t) (b.3 ∙ ap (λ t. b.0 ∷ t) (b.4.1 ∙ ap (λ t. 43 ∷ t) (c.3 ∙ ap (λ t. c.0 ∷ t) c.4)))) in
+    subst IsOfSomeDevice
+    (ap (λ t. t ++ (43 ∷ (nibble_text m.0 ++ (43 ∷ nibble_text k.0)))) n.2 ∙ ap (λ t. h.0 ∷ 43 ∷ (t ++ (43 ∷ nibble_text k.0))) m.2 ∙ ap (λ t. h.0 ∷ 43 ∷ b.0 ∷ 43 ∷ t) k.2 ∙ sym whole)
+    (three_digits n.0 m.0 k.0 n.1 m.1 k.1)
+
+four_said : (word : List ℕ) → IsTextOf four_parts word → IsOfSomeDevice word
+four_said word h =
+    let b = h.4.2 in
+    let c = b.4.2 in
+    let d = c.4.2 in
+    let n = nibble_of_text (h.0 ∷ []) (h.0, [], h.2, refl, refl) in
+    let m = nibble_of_text (b.0 ∷ []) (b.0, [], b.2, refl, refl) in
+    let k = nibble_of_text (c.0 ∷ []) (c.0, [], c.2, refl, refl) in
+    let l = nibble_of_text (d.0 ∷ []) (d.0, [], d.2, refl, refl) in
+    let whole : word ≡ h.0 ∷ 43 ∷ b.0 ∷ 43 ∷ c.0 ∷ 43 ∷ d.0 ∷ [] =
+    h.3 ∙ ap (λ t. h.0 ∷ t) (h.4.1 ∙ ap (λ t. 43 ∷ t) (b.3 ∙ ap (λ t. b.0 ∷ t) (b.4.1 ∙ ap (λ t. 43 ∷ t) (c.3 ∙ ap (λ t. c.0 ∷ t) (c.4.1 ∙ ap (λ t. 43 ∷ t) (d.3 ∙ ap (λ t. d.0 ∷ t) d.4)))))) in
+    subst IsOfSomeDevice
+    (ap (λ t. t ++ (43 ∷ (nibble_text m.0 ++ (43 ∷ (nibble_text k.0 ++ (43 ∷ nibble_text l.0)))))) n.2 ∙ ap (λ t. h.0 ∷ 43 ∷ (t ++ (43 ∷ (nibble_text k.0 ++ (43 ∷ nibble_text l.0))))) m.2
+    ∙ ap (λ t. h.0 ∷ 43 ∷ b.0 ∷ 43 ∷ (t ++ (43 ∷ nibble_text l.0))) k.2 ∙ ap (λ t. h.0 ∷ 43 ∷ b.0 ∷ 43 ∷ c.0 ∷ 43 ∷ t) l.2 ∙ sym whole)
+    (four_digits n.0 m.0 k.0 l.0 n.1 m.1 k.1 l.1)
+
 bare_said : (word : List ℕ) → IsBare word → IsOfSomeDevice word
 bare_said word (inl h) = of_record plain plain_is 3 word (ap Some (sym h))
 bare_said word (inr (inl h)) =
@@ -351,7 +403,9 @@ bare_said word (inr (inl h)) =
 bare_said word (inr (inr (inl h))) = subst IsOfSomeDevice (sym h.1) (kind_said h.0)
 bare_said word (inr (inr (inr (inl h)))) = unit_said word h
 bare_said word (inr (inr (inr (inr (inl h))))) = pair_said word h
-bare_said word (inr (inr (inr (inr (inr h))))) = let p = phys_of_text word h in of_place Tv refl (Settled 0 None) p.0 p.1 2 word (ap Some p.2)
+bare_said word (inr (inr (inr (inr (inr (inl h)))))) = three_said word h
+bare_said word (inr (inr (inr (inr (inr (inr (inl h))))))) = four_said word h
+bare_said word (inr (inr (inr (inr (inr (inr (inr h))))))) = let p = phys_of_text word h in of_place Tv refl (Settled 0 None) p.0 p.1 2 word (ap Some p.2)
 
 -- ---- all
 

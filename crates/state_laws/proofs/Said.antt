@@ -13,14 +13,15 @@ use Rattle.text_core.specs.declared.phys.Phys.{Phys}
 use Rattle.message_table.specs.DeckWords.{deck_info_byte}
 use Rattle.device_features.specs.declared.record.HeardReport.{HeardReport}
 use Rattle.device_features.specs.Kinds.{is_outside}
-use Rattle.device_core.specs.State.{State, addresses_held}
+use Rattle.device_core.specs.declared.outside.MoreHeld.{MoreHeld}
+use Rattle.device_core.specs.State.{State, addresses_held, held_by, more_of}
 use Rattle.device_core.specs.Place.{is_on_wire}
 use Rattle.device_core.specs.declared.place.Place.{Place}
 use Rattle.device_core.specs.declared.place.Place.TheVariants.{Off, Polls, Settled}
 use Rattle.room_trace.specs.StateText.{address_text, held_text, language_bytes, note_text, outside_line, phys_on, power_text, state_line_of, unit_text}
 use Rattle.expect_text.specs.Parts.{IsTextOf}
 use Rattle.expect_text.specs.StateTest.{fields}
-use Rattle.expect_text.specs.StateWords.{AreBytes, IsDash, IsNumber, IsStateWord, IsUnit, note_parts, physical_parts}
+use Rattle.expect_text.specs.StateWords.{AreBytes, IsDash, IsNumber, IsStateWord, IsUnit, note_parts, physical_parts, three_parts}
 use Rattle.expect_text.specs.declared.part.Class.TheVariants.{Hex}
 use Rattle.expect_text.specs.declared.part.PatternPart.{PatternPart}
 use Rattle.expect_text.specs.declared.part.PatternPart.TheVariants.{Byte, One}
@@ -199,7 +200,7 @@ no_pair_is : IsStateWord (codes "-+-")
 no_pair_is = inl (inr (inr (inr (inr (inl (inr refl))))))
 
 place_is : (text : List ℕ) → IsTextOf physical_parts text ⊎ IsDash text → IsStateWord text
-place_is text (inl h) = inl (inr (inr (inr (inr (inr h)))))
+place_is text (inl h) = inl (inr (inr (inr (inr (inr (inr (inr h)))))))
 place_is text (inr h) = unit_is text (inr h)
 
 one_is : (first : Option ℕ) → IsStateWord (unit_text first)
@@ -233,11 +234,48 @@ address_is kind Off = two_are kind None None refl
 address_is kind (Polls found a) = two_are kind found None (polls_in_turn found)
 address_is kind (Settled first second) = two_are kind (Some first) second tt
 
-held_place_is : (place : Place) → IsStateWord (held_text (addresses_held place))
-held_place_is Off = one_is None
-held_place_is (Polls found a) = one_is found
-held_place_is (Settled first None) = one_is (Some first)
-held_place_is (Settled first (Some second)) = pair_is first (Some second)
+-- three addresses, and four
+after_plus : (parts : List PatternPart) (more : List ℕ) → IsTextOf parts more → IsTextOf (Byte 43 ∷ parts) (43 ∷ more)
+after_plus parts more t = (more, refl, t)
+
+three_is : (a b c : ℕ) → IsStateWord (unit_text (Some a) ++ (43 ∷ (unit_text (Some b) ++ (43 ∷ unit_text (Some c)))))
+three_is a b c =
+    let last = after_plus (One Hex ∷ []) (nibble_text (c % 16)) (nibble_is (c % 16) (low c)) in
+    let both = after_plus (One Hex ∷ Byte 43 ∷ One Hex ∷ []) (nibble_text (b % 16) ++ (43 ∷ nibble_text (c % 16)))
+    (nibble_before (Byte 43 ∷ One Hex ∷ []) (b % 16) (43 ∷ nibble_text (c % 16)) (low b) last) in
+    inl (inr (inr (inr (inr (inr (inl
+    (nibble_before (Byte 43 ∷ One Hex ∷ Byte 43 ∷ One Hex ∷ []) (a % 16) (43 ∷ (nibble_text (b % 16) ++ (43 ∷ nibble_text (c % 16)))) (low a) both)))))))
+
+four_is : (a b c d : ℕ) → IsStateWord (unit_text (Some a) ++ (43 ∷ (unit_text (Some b) ++ (43 ∷ (unit_text (Some c) ++ (43 ∷ unit_text (Some d)))))))
+four_is a b c d =
+    let last = after_plus (One Hex ∷ []) (nibble_text (d % 16)) (nibble_is (d % 16) (low d)) in
+    let both = after_plus (One Hex ∷ Byte 43 ∷ One Hex ∷ []) (nibble_text (c % 16) ++ (43 ∷ nibble_text (d % 16)))
+    (nibble_before (Byte 43 ∷ One Hex ∷ []) (c % 16) (43 ∷ nibble_text (d % 16)) (low c) last) in
+    let three = after_plus three_parts (nibble_text (b % 16) ++ (43 ∷ (nibble_text (c % 16) ++ (43 ∷ nibble_text (d % 16)))))
+    (nibble_before (Byte 43 ∷ One Hex ∷ Byte 43 ∷ One Hex ∷ []) (b % 16) (43 ∷ (nibble_text (c % 16) ++ (43 ∷ nibble_text (d % 16)))) (low b) both) in
+    inl (inr (inr (inr (inr (inr (inr (inl
+    (nibble_before (Byte 43 ∷ three_parts) (a % 16) (43 ∷ (nibble_text (b % 16) ++ (43 ∷ (nibble_text (c % 16) ++ (43 ∷ nibble_text (d % 16)))))) (low a) three))))))))
+
+-- what a device from outside holds: the first one, and those of the others that there are
+held_is_word : (a : ℕ) (second third fourth : Option ℕ) → IsStateWord (held_text (Some a ∷ second ∷ third ∷ fourth ∷ []))
+held_is_word a None None None = one_is (Some a)
+held_is_word a (Some b) None None = pair_is a (Some b)
+held_is_word a None (Some c) None = pair_is a (Some c)
+held_is_word a None None (Some d) = pair_is a (Some d)
+held_is_word a (Some b) (Some c) None = three_is a b c
+held_is_word a (Some b) None (Some d) = three_is a b d
+held_is_word a None (Some c) (Some d) = three_is a c d
+held_is_word a (Some b) (Some c) (Some d) = four_is a b c d
+
+held_place_is : (outside : Bool) (place : Place) (more : MoreHeld) → IsStateWord (held_text (addresses_held place ++ more_of outside place more))
+held_place_is true Off more = one_is None
+held_place_is false Off more = one_is None
+held_place_is true (Polls None a) more = one_is None
+held_place_is true (Polls (Some n) a) more = one_is (Some n)
+held_place_is false (Polls None a) more = one_is None
+held_place_is false (Polls (Some n) a) more = one_is (Some n)
+held_place_is true (Settled first second) more = held_is_word first second more.third more.fourth
+held_place_is false (Settled first second) more = held_is_word first second None None
 
 phys_on_is : (on : Bool) (p : Phys) → are_bytes (phys_bytes p) ≡ true → are_bytes (bytes_of phys_bytes (phys_on on p)) ≡ true
 phys_on_is true p h = h
@@ -459,22 +497,22 @@ unknown_is : (d : State) → IsSized d → All IsStateWord (unknown_words d)
 unknown_is d h = more (codes "-") (unknown_from_active d) (unit_is (codes "-") (inr refl)) (unknown_from_active_are d h)
 
 abbrev pub words_of_outside : State → List (List ℕ)
-words_of_outside d = kind_word d.kind ∷ held_text (addresses_held d.place) ∷ dash_or phys_text (phys_on (is_on_wire d) d.phys) ∷ unknown_words d
+words_of_outside d = kind_word d.kind ∷ held_text (held_by d) ∷ dash_or phys_text (phys_on (is_on_wire d) d.phys) ∷ unknown_words d
 
 outside_is : (d : State) → IsSized d → All IsStateWord (words_of_outside d)
 outside_is d h =
-    more (kind_word d.kind) (held_text (addresses_held d.place) ∷ dash_or phys_text (phys_on (is_on_wire d) d.phys) ∷ unknown_words d) (kind_is d.kind)
-    (more (held_text (addresses_held d.place)) (dash_or phys_text (phys_on (is_on_wire d) d.phys) ∷ unknown_words d) (held_place_is d.place)
+    more (kind_word d.kind) (held_text (held_by d) ∷ dash_or phys_text (phys_on (is_on_wire d) d.phys) ∷ unknown_words d) (kind_is d.kind)
+    (more (held_text (held_by d)) (dash_or phys_text (phys_on (is_on_wire d) d.phys) ∷ unknown_words d) (held_place_is (is_outside d.kind) d.place d.more)
     (more (dash_or phys_text (phys_on (is_on_wire d) d.phys)) (unknown_words d) (on_wire_is d h) (unknown_is d h)))
 
-outside_spelled : (d : State) → outside_line d (held_text (addresses_held d.place)) ≡ codes "state " ++ (d.name ++ spaced (words_of_outside d))
+outside_spelled : (d : State) → outside_line d (held_text (held_by d)) ≡ codes "state " ++ (d.name ++ spaced (words_of_outside d))
 outside_spelled d = refl
 
 -- ---- all
 
 abbrev line_by : State → Bool → List ℕ
 line_by d is_strange =
-    if is_strange then outside_line d (held_text (addresses_held d.place))
+    if is_strange then outside_line d (held_text (held_by d))
     else state_line_of d (address_text d.kind (addresses_held d.place)) (language_bytes d.record_of.language) (dash_or note_text d.record_of.heard)
 
 pub outside_is_said : (d : State) → is_outside d.kind ≡ true → IsSized d → IsSaid d (words_of_outside d)

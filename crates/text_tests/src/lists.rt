@@ -26,7 +26,7 @@ const WORDS: &str = "  play           player recorder combo
                  pause power-off power-on
 and the causes of faults
   of a topology  word number name full second-root no-root port-range port-taken not-loose loop hex
-  of a script    word number name width order close too-many end
+  of a script    word number name hex width order close too-many end
 ";
 
 /// Whether that is the list.

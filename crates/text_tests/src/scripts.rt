@@ -1,8 +1,8 @@
 //! What a topology and a script say, and why one is refused.
 use crate::cases::{bytes_of, case_holds};
-use device_core::{Act, Key, VolumeKey};
+use device_core::{Act, Key, Ticket, VolumeKey};
 use message_table::UserControl;
-use room_net::Event;
+use room_net::{Event, HeaderNames};
 use room_script::{Script, ScriptError, TimedEvent, Topology, parse_script, parse_topology};
 use std::alloc::Global;
 use std::process::Abort;
@@ -49,6 +49,9 @@ at 5 press p1 remote 4 44 => line 1: word
 at 5 release p1 => line 1: word
 at 5 send => line 1: word
 at 5 send p1 => line 1: word
+at 5 send p1 attempts => line 1: word
+at 5 send p1 attempts 4 => line 1: word
+at x send p1 attempts x => line 1: word
 at 5 hold p1 => line 1: word
 at 5 hold p1 f => line 1: word
 at 5 hold p1 A => line 1: word
@@ -56,7 +59,10 @@ at 5 hold p1 4+ => line 1: word
 at 5 hold p1 4+4 => line 1: word
 at 5 hold p1 4+f => line 1: word
 at 5 hold p1 4-8 => line 1: word
-at 5 hold p1 1+4+8 => line 1: word
+at 5 hold p1 1+4+8+ => line 1: word
+at 5 hold p1 1+4+8+1 => line 1: word
+at 5 hold p1 1+4+8+5+2 => line 1: word
+at 5 hold p1 1+4+8f => line 1: word
 at 5 hold p1 4 8 => line 1: word
 at x hold p1 15 => line 1: word
 at 5 drop => line 1: word
@@ -80,6 +86,10 @@ at x press p2 port x => line 1: number
 at 5 press p2 port 01 => line 1: number
 at 5 press p2 port  => line 1: number
 at x send p2 4>g => line 1: number
+at 5 send p2 attempts 0 4>g => line 1: number
+at 5 send p2 attempts 7 hex 4 => line 1: number
+at 5 send p1 attempts x 4>0 => line 1: number
+at 5 send p1 attempts 04 4>0 => line 1: number
 at x send p1 @p2>0 => line 1: number
 at 1000000000001 send p1 4>4 => line 1: number
 pulse 05 100 => line 1: number
@@ -100,6 +110,8 @@ at 5 press p2 port 1 => line 1: name
 at 5 release P1 play => line 1: name
 at 5 send p2 4>g => line 1: name
 at 5 send  4>4 => line 1: name
+at 5 send p2 hex 4 => line 1: name
+at 5 send p1 attempts 6 @p2>@tv frob => line 1: name
 at 5 send p2 @p1>g => line 1: name
 at 5 send p1 @p2>@tv image-view-on => line 1: name
 at 5 send p1 @p1>@p2 frob => line 1: name
@@ -108,6 +120,12 @@ at 5 send p1 @P1>0 => line 1: name
 at 5 send p1 4>@ => line 1: name
 at 5 send p1 @p1>@tv>0 => line 1: name
 at 5 send tv  => line 1: frame address
+at 5 send p1 attempts 6 4>g => line 1: frame address
+at 5 send p1 hex 4 => line 1: hex
+at 5 send p1 hex => line 1: hex
+at 5 send p1 attempts 1 hex 4x => line 1: hex
+at 5 send p1 hex @p1>@tv => line 1: hex
+at 5 send p1 hex 00 01 02 03 04 05 06 07 08 09 0a 0b 0c 0d 0e 0f 10 => line 1: hex
 at 5 send p1 4>g => line 1: frame address
 at 5 send p1 @p1 => line 1: frame address
 at 5 send p1 @p1> => line 1: frame address
@@ -335,6 +353,10 @@ unplug p1 => unplug 1
 press tv menu => press menu of 0
 release p1 menu => release menu of 1
 send p1 4>0 set-osd-name \"a  b\" => send from 1
+send p1 hex 40:47:61:20:20:62 => send from 1
+send p1 attempts 4 4>0 set-osd-name \"a  b\" => send from 1, 4 times at most
+send p1 attempts 4 hex 404761202062 => send from 1, 4 times at most
+send p1 attempts 4 @p1>@tv set-osd-name \"a  b\" => send from p1 to tv, 4 times at most
 send p1 @p1>@tv set-osd-name \"a  b\" => send from p1 to tv
 send p1 4>@tv set-osd-name \"a  b\" => send from 4 to tv
 send p1 @p1>e set-osd-name \"a  b\" => send from p1 to 14
@@ -344,17 +366,31 @@ send p1 f>@tv => poll from 15 to tv
 hold p1 - => hold none at 1
 hold p1 e => hold 14 at 1
 hold p1 1+4 => hold 1 and 4 at 1
+hold p1 1+4+8 => hold 1, 4 and 8 at 1
+hold p1 1+4+8+5 => hold 1, 4, 8 and 5 at 1
 drop tv => drop at 0";
 
 // The name of each hold that is listed.
 fn hold_name(act: &Act) -> &'static str {
-    let Act::Hold { first, second } = act else {
+    let Act::Hold {
+        first,
+        second,
+        more,
+    } = act
+    else {
         return "another act";
     };
-    match (first.value(), second.map(|address| address.value())) {
-        (15, None) => "hold none at 1",
-        (14, None) => "hold 14 at 1",
-        (1, Some(4)) => "hold 1 and 4 at 1",
+    match (
+        first.value(),
+        second.map(|address| address.value()),
+        more.third.map(|address| address.value()),
+        more.fourth.map(|address| address.value()),
+    ) {
+        (15, None, None, None) => "hold none at 1",
+        (14, None, None, None) => "hold 14 at 1",
+        (1, Some(4), None, None) => "hold 1 and 4 at 1",
+        (1, Some(4), Some(8), None) => "hold 1, 4 and 8 at 1",
+        (1, Some(4), Some(8), Some(5)) => "hold 1, 4, 8 and 5 at 1",
         _ => "another hold",
     }
 }
@@ -401,14 +437,36 @@ fn event_name(event: &Event) -> &'static str {
             key: Key::Menu,
             press: false,
         } => "release menu of 1",
-        Event::Send { device: 1, frame } if frame.bytes() == b"\x40\x47a  b".as_slice() => {
-            "send from 1"
-        }
+        Event::Send {
+            device: 1,
+            frame,
+            ticket: Ticket { line: 1, attempts },
+        } if frame.bytes() == b"\x40\x47a  b".as_slice() => match attempts {
+            None => "send from 1",
+            Some(4) => "send from 1, 4 times at most",
+            Some(_) => "send from 1, otherwise",
+        },
         Event::SendNamed {
             device: 1,
             names,
             frame,
+            ticket: Ticket {
+                line: 1,
+                attempts: None,
+            },
         } => named_frame_name(names.initiator, names.destination, frame.bytes()),
+        Event::SendNamed {
+            device: 1,
+            names: HeaderNames {
+                initiator: Some(1),
+                destination: Some(0),
+            },
+            ticket: Ticket {
+                line: 1,
+                attempts: Some(4),
+            },
+            ..
+        } => "send from p1 to tv, 4 times at most",
         Event::Outside { device: 1, act } => hold_name(act),
         Event::Outside {
             device: 0,

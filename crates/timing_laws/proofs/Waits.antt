@@ -23,6 +23,7 @@ use Rattle.device_features.specs.Effects.{effect_of, refuses, heard_of}
 use Rattle.device_features.specs.Keys.{pressing, releasing}
 use Rattle.device_features.specs.Kinds.{is_nowhere, is_outside, is_switch, type_of}
 use Rattle.device_features.specs.declared.keys.Key.{Key}
+use Rattle.device_core.specs.declared.device.Ticket.{Ticket}
 use Rattle.device_core.specs.declared.device.Queued.{Queued}
 use Rattle.device_core.specs.declared.device.SubmitError.{SubmitError}
 use Rattle.line_frames.specs.declared.free_time.FreeTime.{FreeTime}
@@ -37,7 +38,7 @@ use Rattle.device_core.specs.Effects.{after_frame, by_decoded, is_for}
 use Rattle.line_frames.specs.FreeTime.{free_time_of}
 use Rattle.device_core.specs.Keys.{after_key, key_fault, keyed_by, own_doing}
 use Rattle.device_core.specs.Outside.{act_fault, acted_by, after_act, class_after_drop}
-use Rattle.device_core.specs.Place.{after_failure, after_front, after_joining, after_submission, class_after_waiting, class_of_poll, fresh, frame_sent, front_is_poll, is_allocating, is_off, is_on_wire, place_after_fate, place_after_poll, polled_at, ready_by, ready_of, reported_by, reported_from, sent_by, start_place, submit_fault, submitted_by, with_reports}
+use Rattle.device_core.specs.Place.{after_failure, after_front, after_joining, after_submission, class_after_waiting, again_by, attempts_of, class_of_poll, fresh, frame_sent, front_is_counted, front_is_poll, most_again, is_allocating, is_off, is_on_wire, place_after_fate, place_after_poll, polled_at, ready_by, ready_of, reported_by, reported_from, sent_by, start_place, submit_fault, submitted_by, with_reports}
 use Rattle.device_core.specs.Say.{after_effect, say, say_all}
 use Rattle.device_core.specs.State.{State, addresses_held, frame_of, holds, one_more, source, speaks, with_queued}
 use Rattle.room_event.specs.declared.event.Event.{Event}
@@ -80,7 +81,7 @@ longer-two false d x y h k = k
 
 longer-queued : (limit at from to : ℕ) (bytes : List ℕ) (d : State) → IsLonger d (with_queued limit at from to bytes d)
 longer-queued limit at from to bytes d =
-    let q : Queued = record { frame = frame_of from to bytes; ready = at } in
+    let q : Queued = record { frame = frame_of from to bytes; ready = at; ticket = None } in
     longer-two (not (speaks d) || holds d.place to) d d (if nat_lt (length d.queue) limit then record d { queue = d.queue ++ q ∷ [] } else record d { dropped = one_more d.dropped })
     (longer-same d)
     (longer-two (nat_lt (length d.queue) limit) d (record d { queue = d.queue ++ q ∷ [] }) (record d { dropped = one_more d.dropped })
@@ -194,7 +195,7 @@ kept-acted rest most d act h = by (act_fault d) refl act
   where
     by : (fault : Option KeyError) → act_fault d ≡ fault → (act : Act) → IsKept rest most (acted_by d fault act)
     by (Some fault) e act = h
-    by None e (Hold first second) = record {
+    by None e (Hold first second more) = record {
       few = h.few;
       outside = λ o. refl;
       on = λ c. refl;
@@ -211,13 +212,13 @@ kept-keyed rest most limit at key press d h = by (key_fault d key)
         (longer-effected limit (own_doing at) (if press then pressing d.kind d.phys d.record_of key else releasing d.kind d.record_of key) d) h
     by (Some fault) = h
 
-kept-submitted : (rest most limit at : ℕ) (frame : List ℕ) (d : State) → IsKept rest most d → IsKept rest most (after_submission limit d frame at)
-kept-submitted rest most limit at frame d h = by (submit_fault limit d frame)
+kept-submitted : (rest most limit at : ℕ) (frame : List ℕ) (ticket : Ticket) (d : State) → IsKept rest most d → IsKept rest most (after_submission limit d frame ticket at)
+kept-submitted rest most limit at frame ticket d h = by (submit_fault limit d frame)
   where
-    by : (fault : Option SubmitError) → IsKept rest most (submitted_by d frame at fault)
+    by : (fault : Option SubmitError) → IsKept rest most (submitted_by d frame ticket at fault)
     by None =
-        kept-longer rest most d (submitted_by d frame at None)
-        (record { kind = refl; place = refl; attempts = refl; class = refl; more = record { frame = frame; ready = at } ∷ []; queue = refl }) h
+        kept-longer rest most d (submitted_by d frame ticket at None)
+        (record { kind = refl; place = refl; attempts = refl; class = refl; more = record { frame = frame; ready = at; ticket = Some ticket } ∷ []; queue = refl }) h
     by (Some fault) = h
 
 -- a device from outside looks for no address
@@ -274,9 +275,9 @@ kept-loose rest most (node ∷ tree) = (kept-fresh rest most node.kind node.name
 pub kept-started : (rest most : ℕ) (tree : List Node) → AreKept rest most (first_net tree []).devices
 kept-started rest most tree = kept-rewired rest most 0 tree (loose tree) (kept-loose rest most tree)
 
-kept-sent : (rest most at device : ℕ) (frame : Option (List ℕ)) (s : NetState) → AreKept rest most s.devices → AreKept rest most (after_sent at device frame s).devices
-kept-sent rest most at device None s h = h
-kept-sent rest most at device (Some frame) s h = kept-changed rest most device (λ d. after_submission 16 d frame at) s.devices (λ d k. kept-submitted rest most 16 at frame d k) h
+kept-sent : (rest most at device : ℕ) (frame : Option (List ℕ)) (ticket : Ticket) (s : NetState) → AreKept rest most s.devices → AreKept rest most (after_sent at device frame ticket s).devices
+kept-sent rest most at device None ticket s h = h
+kept-sent rest most at device (Some frame) ticket s h = kept-changed rest most device (λ d. after_submission 16 d frame ticket at) s.devices (λ d k. kept-submitted rest most 16 at frame ticket d k) h
 
 pub kept-applied : (rest most at : ℕ) (event : Event) (s : NetState) → AreKept rest most s.devices → AreKept rest most (net_after at event s).devices
 kept-applied rest most at event s h = by (event_fault s event) event
@@ -286,8 +287,8 @@ kept-applied rest most at event s h = by (event_fault s event) event
     by None (Plug child parent port) = kept-rewired rest most at _ s.devices h
     by None (Unplug child) = kept-rewired rest most at _ s.devices h
     by None (KeyEvent device key press) = kept-changed rest most device (λ d. after_key 16 d key press at) s.devices (λ d k. kept-keyed rest most 16 at key press d k) h
-    by None (Send device frame) = kept-sent rest most at device (Some frame) s h
-    by None (SendNamed device names frame) = kept-sent rest most at device (named_frame s.devices names frame) s h
+    by None (Send device frame ticket) = kept-sent rest most at device (Some frame) ticket s h
+    by None (SendNamed device names frame ticket) = kept-sent rest most at device (named_frame s.devices names frame) ticket s h
     by None (Outside device act) = kept-changed rest most device (λ d. after_act d act) s.devices (λ d k. kept-acted rest most d act k) h
 
 -- ---- who contends
@@ -414,17 +415,30 @@ fronted rest begin most now after d h k l c n = by d.queue refl ((started rest b
 -- of a poll nothing is counted
 poll_front : (rest most one other : ℕ) (queue : List Queued) → front_is_poll queue ≡ true → IsFront rest most one queue → IsFront rest most other queue
 poll_front rest most one other [] p f = absurd f
-poll_front rest most one other (q ∷ queue) p f = (f.0, λ long. absurd (false≢true (sym long ∙ p)))
+poll_front rest most one other (q ∷ queue) p f = (f.0, λ long. absurd (false≢true (sym long ∙ left (length q.frame == 1) (not (is_some (attempts_of q.ticket))) p)))
+  where
+    left : (a b : Bool) → (a && b) ≡ true → a ≡ true
+    left true b h = refl
+    left false b h = absurd (false≢true h)
 
 kept-ended : (rest most : ℕ) (d : State) → (is_outside d.kind ≡ true → is_allocating d ≡ false) → IsKept rest most (after_front d)
 kept-ended rest most d out = kept-calm rest most (after_front d) no_present (omega arith) out
 
-kept-failed : (rest most : ℕ) (d : State) → is_on_wire d ≡ true → (is_outside d.kind ≡ true → is_allocating d ≡ false) → IsFront rest most (d.attempts + 1) d.queue → IsKept rest most (after_failure d)
-kept-failed rest most d on out front = by (nat_lt d.attempts 5) refl
+-- a frame is sent again five times at most
+again_few : (queue : List Queued) → most_again queue ≤ 5
+again_few [] = omega arith
+again_few (q ∷ queue) = by (attempts_of q.ticket)
   where
-    by : (b : Bool) → nat_lt d.attempts 5 ≡ b → IsKept rest most (if b then record d { attempts = d.attempts + 1; class = Retry } else after_front d)
+    by : (most : Option ℕ) → again_by most ≤ 5
+    by None = omega arith
+    by (Some most) = omega arith
+
+kept-failed : (rest most : ℕ) (d : State) → is_on_wire d ≡ true → (is_outside d.kind ≡ true → is_allocating d ≡ false) → IsFront rest most (d.attempts + 1) d.queue → IsKept rest most (after_failure d)
+kept-failed rest most d on out front = by (nat_lt d.attempts (most_again d.queue)) refl
+  where
+    by : (b : Bool) → nat_lt d.attempts (most_again d.queue) ≡ b → IsKept rest most (if b then record d { attempts = d.attempts + 1; class = Retry } else after_front d)
     by true e = record {
-      few = let l : d.attempts < 5 = grind (arith, nat_tests) in omega (arith, l);
+      few = let l : d.attempts < most_again d.queue = grind (arith, nat_tests) in let m = again_few d.queue in omega (arith, l, m);
       outside = out;
       on = λ c. on;
       front = λ c n. front;
@@ -437,7 +451,18 @@ kept-either rest most false x y h k = k
 
 kept-frame_sent : (rest most : ℕ) (d : State) (fate : Fate) → d.attempts ≤ 5 → is_on_wire d ≡ true → (is_outside d.kind ≡ true → is_allocating d ≡ false) → IsFront rest most (d.attempts + 1) d.queue
     → IsKept rest most (frame_sent d fate)
-kept-frame_sent rest most d Lost few on out front = kept-calm rest most (record d { class = NewInitiator }) no_new few out
+kept-frame_sent rest most d Lost few on out front = by (front_is_counted d.queue) (nat_lt d.attempts (most_again d.queue)) refl
+  where
+    calm : (e : State) → e.attempts ≤ 5 → (is_outside e.kind ≡ true → is_allocating e ≡ false) → IsKept rest most (record e { class = NewInitiator })
+    calm e small o = kept-calm rest most (record e { class = NewInitiator }) no_new small o
+
+    by : (counted again : Bool) → nat_lt d.attempts (most_again d.queue) ≡ again
+        → IsKept rest most (record (if counted then (if again then record d { attempts = d.attempts + 1; class = Retry } else after_front d) else d) { class = NewInitiator })
+    by true true e =
+        let l : d.attempts < most_again d.queue = grind (arith, nat_tests) in let m = again_few d.queue in
+        calm (record d { attempts = d.attempts + 1; class = Retry }) (omega (arith, l, m)) out
+    by true false e = calm (after_front d) (omega arith) out
+    by false again e = calm d few out
 kept-frame_sent rest most d Delivered few on out front = kept-ended rest most d out
 kept-frame_sent rest most d Unacked few on out front = kept-either rest most (front_is_poll d.queue) (after_front d) (after_failure d) (λ p. kept-ended rest most d out) (kept-failed rest most d on out front)
 kept-frame_sent rest most d Broken few on out front =

@@ -45,6 +45,16 @@ mon --fold => 1000 0;1400 1;20000 end; => 1000 1400 bad-start -;
 mon --fold --from edges --from-start => 1000 0;1400 1;2000 0;2400 1;21000 0;24700 1;25500 0;26100 1;30000 0;30400 1;31000 0;31400 1;40000 end; => 1000 2400 bad-starts 2;21000 28251 silent 1;30000 31400 bad-starts 2;
 mon --fold --audit => 1000 0;1400 1;2000 0;2400 1;3000 0;3600 1;20000 end; => 1000 1400 bad-start -;  start low 400 not 3500..3900;  start total 1000 not 4300..4700;2000 3600 bad-starts 2;  all readings;
 mon --fold --json => 1000 0;1400 1;2000 0;2400 1;3000 0;3600 1;20000 end; => {\"line\":\"1000 3600 bad-starts 3\",\"type\":\"reading\",\"begin\":1000,\"close\":3600,\"ending\":\"bad-starts\",\"count\":3};
+mon --follow --from edges --json => 1000 0;1400 1;20000 end; => {\"line\":\"1000 1400 bad-start -\",\"type\":\"reading\",\"begin\":1000,\"close\":1400,\"ending\":\"bad-start\",\"bits\":null};
+mon --follow --from csv --audit --json => Time,CEC;0,1;0.001,0;0.0014,1;0.03,1; => {\"line\":\"1000 1400 bad-start -\",\"type\":\"reading\",\"begin\":1000,\"close\":1400,\"ending\":\"bad-start\",\"bits\":null};{\"line\":\"  start low 400 not 3500..3900\",\"type\":\"remark\",\"remark\":\"start-low\",\"section\":\"5.2.1\",\"width\":400,\"least\":3500,\"most\":3900};{\"line\":\"  all readings\",\"type\":\"summary\"};
+mon --edges => # by hand;1000 0;4700 1;5500 0;6100 1;20000 end; => 1000 0;4700 1;5500 0;6100 1;20000 end;
+mon --edges => 1000 0;4700 1;5500 0;20000 end; => 1000 0;4700 1;5500 0;20000 end;
+mon --edges => 20000 end; => 20000 end;
+mon --edges --from csv --signal CEC => Time,SCL,CEC;0,1,1;0.021,1,0;0.0247,1,1;0.0255,0,0;0.0261,1,1; => 21000 0;24700 1;25500 0;26100 1;36100 end;
+mon --signal CEC --edges => $timescale 1 us $end $var wire 1 a SCL $end $var wire 1 b CEC $end $enddefinitions $end;#5;0a;#21000;0b;#24700;1b;#40000; => 21000 0;24700 1;40000 end;
+mon --from pin --edges => # start_monotonic 7.000000000;7.021000000 0;7.024700000 1;7.040000000 1; => 21000 0;24700 1;40000 end;
+mon --invert --edges => 1000 0;4700 1;20000 end; => 0 0;1000 1;4700 0;20000 end;
+mon --edges --glitch 5 => 500 0;503 1;1000 0;4700 1;20000 end; => 1000 0;4700 1;20000 end;
 mon --json --from-idle => 1000 0;4700 1;5500 0;6100 1;13299 end; => {\"line\":\"0 13299 joined -\",\"type\":\"reading\",\"begin\":0,\"close\":13299,\"ending\":\"joined\",\"bits\":null};
 mon --from-start --from csv => Time,CEC;0,1;0.001,0;0.0047,1;0.0055,0;0.0061,1; => 1000 8251 silent 1;
 mon => Time,CEC;0,1;0.001,0;0.0047,1;0.0055,0;0.0061,1;0.03,0;0.0304,1;0.04,1; => 0 13300 joined -;30000 30400 bad-start -;
@@ -133,7 +143,14 @@ const UNREMARKED: &[u8] = b"21000 0\n24700 1\n25500 0\n26100 1\n40000 end\n";
 /// A strict audit has the same output, and status 1 where there is a remark. A note is none: nobody takes a block.
 #[test]
 fn strict_audits_fail_where_there_is_a_remark(rt: HostRuntime) {
-    for flags in ["--audit", "--timing", "--audit --json", "--audit --fold"] {
+    for flags in [
+        "--audit",
+        "--timing",
+        "--audit --json",
+        "--audit --fold",
+        "--follow --from edges --audit",
+        "--follow --from edges --timing --json",
+    ] {
         let line = format!(in rt.alloc(); "mon {flags}").expect(&rt, "a line");
         let strict = format!(in rt.alloc(); "mon {flags} --strict").expect(&rt, "a line");
         let text = written(&rt, line.as_str(), REMARKED);
@@ -283,7 +300,13 @@ fn audits_captures_as_they_come(rt: HostRuntime) {
     for case in FOLLOWED.lines() {
         let (form, text) = two_parts(&rt, case);
         let input = with_lines(&rt, text);
-        for flag in ["--audit", "--timing"] {
+        for flag in [
+            "--audit",
+            "--timing",
+            "--from-start --json",
+            "--audit --json",
+            "--timing --json",
+        ] {
             let line = format!(in rt.alloc(); "mon --from {form} {flag}").expect(&rt, "a line");
             let audit = written(&rt, line.as_str(), input.as_str().as_bytes());
             let line = format!(in rt.alloc(); "mon --follow --from {form} {flag}").expect(

@@ -44,6 +44,7 @@ mon --help => --margin
 mon --help => --invert
 mon --help => --from-idle
 mon --help => --fold
+mon --help => --edges
 mon --help => --follow
 mon --help => --strict
 mon --help => or a remark with --strict
@@ -297,13 +298,24 @@ mon --follow --from pin --invert
 mon --follow --from edges --from-idle
 mon --follow --from edges --audit --from-start
 mon --follow --from edges --timing --glitch 50
-mon --follow --from edges --audit --strict
-mon --follow --from edges --json
+mon --follow --from edges --json --json
 mon --follow --from edges --fold
 mon --follow --from edges --strict
 mon --follow --from edges --signal CEC
 mon --follow=yes --from edges
 mon --fold --fold
+mon --edges --edges
+mon --edges=vcd
+mon --edges --audit
+mon --edges --timing
+mon --edges --strict
+mon --edges --fold
+mon --edges --json
+mon --edges --margin 50
+mon --edges --from-start
+mon --from-idle --edges
+mon --edges --follow --from edges
+mon --edges --from edges --signal CEC
 mon --fold=yes
 check --capture --fold
 run --as vcd

@@ -27,7 +27,7 @@ returns-in_err-topology-clause-session g c =
     let p = err_from_is_err_and c.from_residual.result c.from_residual.ensures.1 in
     rw (p.1, p.2) (
       after,
-      unopened_is known after (held g.S.Sink.contents c.args.out.now) c.in_err-topology.field-0.0
+      unopened_is c.args.form known after (held g.S.Sink.contents c.args.out.now) c.in_err-topology.field-0.0
           (subst (λ (before : Option (List ℕ)). IsOpening before after (Err c.in_err-topology.field-0.0)) c.new-incoming.ensures c.in_err-topology.ensures),
     )
 
@@ -43,7 +43,7 @@ returns-in-Err-clause-session g c =
     let known = g.R.Read.remaining c.args.input.now in
     let after = c.topology_text.new.incoming.rest in
     let opened = opened_from known c.new-incoming.result.rest after c.in_ok-topology.topology.items c.as_slice.result.now c.new-incoming.ensures c.as_slice.ensures.value c.in_ok-topology.ensures in
-    (after, refused_is known after after (held g.S.Sink.contents c.args.out.now) c.as_slice.result.now c.in-Err.error opened c.in-Err.ensures)
+    (after, refused_is c.args.form known after after (held g.S.Sink.contents c.args.out.now) c.as_slice.result.now c.in-Err.error opened c.in-Err.ensures)
 
 pub returns-in-Err-clause-handed : goal.returns-in-Err-clause-handed
 returns-in-Err-clause-handed g c =
@@ -65,7 +65,7 @@ returns-in_err-put_first-clause-session g c =
     let p = err_from_is_err_and c.from_residual-in_err-put_first.result c.from_residual-in_err-put_first.ensures.1 in
     rw (p.1, p.2) (
       after,
-      unput_is known after after c.in-Ok.live (held g.S.Sink.contents c.args.out.now) (held g.S.Sink.contents c.put_first.new.out) c.as_slice.result.now c.in_err-put_first.field-0.0 opened c.in-Ok.ensures
+      unput_is c.args.form known after after c.in-Ok.live (held g.S.Sink.contents c.args.out.now) (held g.S.Sink.contents c.put_first.new.out) c.as_slice.result.now c.in_err-put_first.field-0.0 opened c.in-Ok.ensures
           c.in_err-put_first.ensures.first,
     )
 
@@ -86,6 +86,6 @@ returns-clause-session g c =
     let after = c.answer.new.incoming.rest in
     let opened = opened_from known c.new-incoming.result.rest mid c.in_ok-topology.topology.items c.as_slice.result.now c.new-incoming.ensures c.as_slice.ensures.value c.in_ok-topology.ensures in (
       after,
-      session_is known mid after c.in-Ok.live (held g.S.Sink.contents c.args.out.now) (held g.S.Sink.contents c.put_first.new.out) (held g.S.Sink.contents c.answer.new.out) c.as_slice.result.now c.answer.result
+      session_is c.args.form known mid after c.in-Ok.live (held g.S.Sink.contents c.args.out.now) (held g.S.Sink.contents c.put_first.new.out) (held g.S.Sink.contents c.answer.new.out) c.as_slice.result.now c.answer.result
           opened c.in-Ok.ensures c.in_ok-put_first.ensures.first c.answer.ensures.answered,
     )

@@ -7,4 +7,4 @@ use Rattle.live_session.proofs.edges.add_edges.Goals as goal
 pub returns-then-span : goal.returns-then-span
 returns-then-span g c =
     let empty : c.args.span.until ≤ c.args.span.from = search rules in
-    subst (λ (t : List ℕ). Adds c.args.out.now c.args.out.now t) (sym (no_edges c.args.span c.args.stretches.now empty)) (nothing c.args.out.now)
+    subst (λ (t : List ℕ). Adds c.args.out.now c.args.out.now t) (sym (no_edges c.args.form c.args.span c.args.stretches.now empty)) (nothing c.args.out.now)

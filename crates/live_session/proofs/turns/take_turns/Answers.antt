@@ -1,16 +1,12 @@
-use Rattle.std.proofs.Common.{rules, arith, ◌≡◌, ◌∷◌, ◌∙◌, ◌+◌, ◌-◌, ◌<◌, ℕ, subst, sym, length, Bool, None}
-use Rattle.line_wave.specs.Bounds.{latest_event, latest_instant}
+use Rattle.std.proofs.Common.{rules, arith, ◌≡◌, ◌∷◌, ◌∙◌, subst, sym, length, Bool, None}
 use Rattle.room_run.specs.declared.run.Turn.TheVariants.{Stop, Apply, Round}
 use Rattle.room_run.specs.Run.{turn_of, first_time}
 use Rattle.room_net.proofs.Kept.{event_keeps}
-use Rattle.room_run.proofs.Advance.{next_schedule, round_begins, rounds_kept, complete_kept, refused_kept, counts_brought}
+use Rattle.room_run.proofs.Advance.{next_schedule, round_begins, smaller, fewer, rounds_kept, complete_kept, refused_kept, counts_brought}
 use Rattle.room_run.proofs.Running.{brings, event_happens, round_happens}
 use Rattle.live_session.specs.Turns.{IsOn}
 use Rattle.live_session.proofs.Going.{drop_next, next_event, heard_is, next_round, reached_more}
 use Rattle.live_session.proofs.turns.take_turns.Goals as goal
-
-smaller : (events old new : ℕ) → old < new → old < latest_event → events + (latest_instant - new) < events + (latest_instant - old)
-smaller events old new sooner before = omega arith
 
 pub turns-preserved-in-Apply : goal.turns-preserved-in-Apply
 turns-preserved-in-Apply g c =
@@ -34,6 +30,12 @@ turns-preserved-in-Apply g c =
       refused = rw c.take_event.ensures.totals (refused_kept _ _ _ _ _ _ split c.turns.invariant.refused);
       tree = kept.count ∙ c.turns.invariant.tree;
     }
+
+pub turns-smaller-in-Apply : goal.turns-smaller-in-Apply
+turns-smaller-in-Apply g c =
+    let split : c.turns.rest.now ≡ c.in-Some.event.now ∷ c.in-Some.others.now = search rules in
+    let kept = event_keeps c.in-Apply.at c.in-Some.event.now.event c.turns.net c.take_event.new.self c.take_event.ensures.net in
+    fewer c.in-Some.event.now c.in-Some.others.now c.turns.rest.now c.turns.net.rest c.take_event.new.self.rest split kept.rest
 
 pub turns-smaller : goal.turns-smaller
 turns-smaller g c =

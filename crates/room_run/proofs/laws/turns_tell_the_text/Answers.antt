@@ -10,3 +10,6 @@ returns-clause-told c = Whole.run_told
 
 pub returns-clause-trace : goal.returns-clause-trace
 returns-clause-trace c = Whole.trace_by
+
+pub returns-clause-objects : goal.returns-clause-objects
+returns-clause-objects c = Whole.objects_by

@@ -2,7 +2,7 @@ use Rattle.std.proofs.Common.{rules, arith, ◌≡◌, ◌∷◌, sym, length}
 use Rattle.room_run.specs.declared.run.Turn.TheVariants.{Apply, Round}
 use Rattle.room_run.specs.Run.{turn_of, first_time, start}
 use Rattle.room_net.proofs.Kept.{event_keeps}
-use Rattle.room_run.proofs.Advance.{next_schedule, round_begins, smaller, rounds_kept, complete_kept, refused_kept, counts_brought}
+use Rattle.room_run.proofs.Advance.{next_schedule, round_begins, smaller, fewer, rounds_kept, complete_kept, refused_kept, counts_brought}
 use Rattle.room_net.specs.Step.{IsNextRound}
 use Rattle.room_run.proofs.Running.{brings, event_happens, reached_more, round_happens}
 use Rattle.room_run.proofs.turn_by_turn.run_turns.Goals as goal
@@ -23,6 +23,12 @@ turns-preserved-in-Apply g c =
       complete = rw c.take_event.ensures.totals (complete_kept _ _ c.turns.invariant.complete);
       refused = rw c.take_event.ensures.totals (refused_kept _ _ _ _ _ _ split c.turns.invariant.refused);
     }
+
+pub turns-smaller-in-Apply : goal.turns-smaller-in-Apply
+turns-smaller-in-Apply g c =
+    let split : c.turns.rest.now ≡ c.in-Some.event.now ∷ c.in-Some.others.now = search rules in
+    let kept = event_keeps c.in-Apply.at c.in-Some.event.now.event c.turns.net c.take_event.new.net c.take_event.ensures.net in
+    fewer c.in-Some.event.now c.in-Some.others.now c.turns.rest.now c.turns.net.rest c.take_event.new.net.rest split kept.rest
 
 pub turns-smaller : goal.turns-smaller
 turns-smaller g c =

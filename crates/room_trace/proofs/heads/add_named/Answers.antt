@@ -1,4 +1,4 @@
-use Rattle.std.proofs.Common.{List, Option, ap, codes, subst, subst₂, ℕ, ◌∙◌}
+use Rattle.std.proofs.Common.{List, Option, ap, subst, subst₂, ℕ, ◌∙◌}
 use Rattle.text_core.specs.Adds.{Adds}
 use Rattle.text_core.specs.Number.{number_of}
 use Rattle.record_core.specs.Records.{object_of}

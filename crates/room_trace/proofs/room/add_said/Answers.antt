@@ -1,4 +1,4 @@
-use Rattle.std.proofs.Common.{List, ap, subst, subst₂, codes, ℕ, ◌++◌, ◌∙◌}
+use Rattle.std.proofs.Common.{List, subst, subst₂, codes, ℕ, ◌++◌}
 use Rattle.text_core.specs.Adds.{Adds}
 use Rattle.record_core.specs.Records.{object_of}
 use Rattle.room_trace.specs.Records.{event_cells}

@@ -1,10 +1,7 @@
-use Rattle.std.proofs.Common.{◌≡◌, ◌∙◌, List, Option, ℕ, ap, ap₂, codes, rules, subst}
+use Rattle.std.proofs.Common.{◌≡◌, ◌∙◌, List, ap, codes, rules, subst}
 use Rattle.text_core.specs.Adds.{Adds}
-use Rattle.text_core.specs.declared.piece.Piece.{Piece}
 use Rattle.device_core.specs.State.{addresses_held}
-use Rattle.device_features.specs.declared.record.HeardReport.{HeardReport}
-use Rattle.message_table.specs.declared.message.Triple.{Triple}
-use Rattle.record_core.specs.Cells.{PlainCell, PlainValue}
+use Rattle.record_core.specs.Cells.{PlainCell}
 use Rattle.record_core.specs.Records.{record_text}
 use Rattle.record_core.specs.Values.{pieces}
 use Rattle.room_trace.specs.Records.{heard_value, parts_value, state_cells_of, unit_pieces, units_of}

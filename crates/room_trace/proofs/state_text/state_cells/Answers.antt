@@ -1,4 +1,4 @@
-use Rattle.std.proofs.Common.{rules, ◌≡◌, ◌∙◌, ℕ, List, [], ◌∷◌, codes, length}
+use Rattle.std.proofs.Common.{rules, ◌≡◌, ◌∙◌, [], ◌∷◌, codes, length}
 use Rattle.text_core.specs.Kind.{kind_word}
 use Rattle.message_table.specs.DeckWords.{deck_info_byte}
 use Rattle.device_core.specs.Place.{is_on_wire}

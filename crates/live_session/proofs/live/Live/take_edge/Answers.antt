@@ -1,10 +1,12 @@
-use Rattle.std.proofs.Common.{subst}
-use Rattle.text_core.specs.Adds.{Adds}
-use Rattle.live_session.specs.Session.{Session}
-use Rattle.live_session.proofs.Answering.{edge_taken, taken_tail}
+use Rattle.std.proofs.Common.{refl}
+use Rattle.live_session.specs.Live.{session_of}
+use Rattle.live_session.specs.Session.{taken_text}
+use Rattle.live_session.proofs.Answering.{edge_taken}
+use Rattle.live_session.proofs.Saying.{says_text}
 use Rattle.live_session.proofs.live.Live.take_edge.Goals as goal
 
 pub returns : goal.returns
 returns g c =
+    let there = c.self.inside in
     edge_taken c.args.self.now c.go-text.new.self c.args.text c.go-text.result c.add_taken.new.out c.go-text.ensures
-    (subst (λ (s : Session). Adds c.go-text.result c.add_taken.new.out (taken_tail s)) c.self.view_is c.add_taken.ensures)
+    (says_text (λ form s. taken_text form s.horizon) there.form there.edid.value (session_of there) c.go-text.new.self c.go-text.result c.add_taken.new.out refl c.self.view_is c.add_taken.ensures)

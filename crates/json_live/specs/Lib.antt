@@ -1,2 +1,0 @@
-pub mod Object
-pub mod Put

@@ -1,4 +1,0 @@
-use Rattle.program_calls.proofs.program.Call.serve_in_lines.Goals as goal
-
-pub returns : goal.returns
-returns g c done = rw (c.into_below.ensures, ← c.new-out.ensures.contents) (c.serve_lines-status.ensures done)
