@@ -54,6 +54,7 @@ script_more : (cause : ScriptCause) → 1 < number_of (script_code cause)
 script_more scripts.Word = omega arith
 script_more scripts.Number = omega arith
 script_more scripts.Name = omega arith
+script_more scripts.Hex = omega arith
 script_more scripts.Width = omega arith
 script_more scripts.Order = omega arith
 script_more scripts.Close = omega arith

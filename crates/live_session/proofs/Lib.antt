@@ -1,3 +1,4 @@
+pub mod Fewer
 pub mod Below
 pub mod Edging
 pub mod Extends

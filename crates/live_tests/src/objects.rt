@@ -124,7 +124,7 @@ fn each_line_has_its_object(rt: HostRuntime) {
         let want = spelled(&rt, dialogue);
         assert!(rt; said.as_slice() == want.as_bytes(), "{want}");
         let reported = end_of(&rt, &ended);
-        assert!(rt; reported == end, "{reported}");
+        assert!(rt; reported.as_str() == end, "{reported}");
     }
 }
 

@@ -2,9 +2,10 @@ use Rattle.std.proofs.Common.{rules, arith, ◌≡◌, ◌∷◌, ◌∙◌, sub
 use Rattle.room_run.specs.declared.run.Turn.TheVariants.{Stop, Apply, Round}
 use Rattle.room_run.specs.Run.{turn_of, first_time}
 use Rattle.room_net.proofs.Kept.{event_keeps}
-use Rattle.room_run.proofs.Advance.{next_schedule, round_begins, smaller, fewer, rounds_kept, complete_kept, refused_kept, counts_brought}
+use Rattle.room_run.proofs.Advance.{next_schedule, round_begins, rounds_kept, complete_kept, refused_kept, counts_brought}
 use Rattle.room_run.proofs.Running.{brings, event_happens, round_happens}
 use Rattle.live_session.specs.Turns.{IsOn}
+use Rattle.live_session.proofs.Fewer.{fewer, smaller}
 use Rattle.live_session.proofs.Going.{drop_next, next_event, heard_is, next_round, reached_more}
 use Rattle.live_session.proofs.turns.take_turns.Goals as goal
 
