@@ -176,9 +176,9 @@ def objects_at_once():
     return right and (status, fault) == (1, 'hdminet: the audit has a remark\n') and [o['type'] for o in objects[:2]] == ['summary', 'sender'] and objects[1]['not_taken'] == 1
 
 
-def has_fields(line, **fields):
+def has_fields(told, /, **fields):
     """A line is an object with these fields."""
-    said = json.loads(line) if line else {}
+    said = json.loads(told) if told else {}
     return all(name in said and said[name] == value for name, value in fields.items())
 
 
