@@ -40,13 +40,14 @@ enum hdminet_run_code {
     HDMINET_TOPOLOGY_HEX = 70,         /* these are no pairs of hex digits */
 
     HDMINET_SCRIPT_WORD = 80,     /* there is no such line, or no such key */
-    HDMINET_SCRIPT_NUMBER = 81,   /* a number is ill-formed, or a time is past 1,000,000,000,000 */
+    HDMINET_SCRIPT_NUMBER = 81,   /* a number is ill-formed, a time is past 1,000,000,000,000, or a frame has other attempts than 1 to 6 */
     HDMINET_SCRIPT_NAME = 82,     /* the topology has no such device */
     HDMINET_SCRIPT_WIDTH = 83,    /* a pulse is not 1 to 10,000 microseconds wide, or a pull not 1 to 10,000,000 */
     HDMINET_SCRIPT_ORDER = 84,    /* a time is before that of the event above, a pulse begins before the end of the pulse or pull above, a pull not after it, or the pin goes back in time */
     HDMINET_SCRIPT_CLOSE = 85,    /* a pulse is less than 25,000 microseconds after the end of the pulse or pull above */
     HDMINET_SCRIPT_TOO_MANY = 86, /* a pulse stands after 4,096 pulses and pulls, or a pull after 16,384 */
     HDMINET_SCRIPT_END = 87,      /* there is no `end`, a line after it, or it is not after every event */
+    HDMINET_SCRIPT_HEX = 88,      /* these are no bytes of a frame in hex */
 
     HDMINET_EXPECT_WORD = 90,   /* there is no such expectation, its pattern is too long, or nothing follows a label */
     HDMINET_EXPECT_NUMBER = 91, /* there is no number in an expectation */
