@@ -535,7 +535,7 @@ def broken_devices(pool):
         (answers % "after 0  send 44", 60, "no such line: after 0  send 44"),
         (answers % "after 07 send 44", 60, "no such line: after 07 send 44"),
         (answers % ("after 0 send " + "44" * 17), 60, "no such line: after 0 send " + "44" * 17),
-        (answers % "after 0 hold 4+8+b", 60, "no such line: after 0 hold 4+8+b"),
+        (answers % "after 0 hold 4+8+b+0+1", 60, "no such line: after 0 hold 4+8+b+0+1"),
         (answers % "after 0 hold f", 60, "no such line: after 0 hold f"),
         (answers % "after 0 wake", 60, "no such line: after 0 wake"),
         (answers % "after 0 pull 100", 60, "no such line: after 0 pull 100"),
