@@ -100,6 +100,9 @@ class Room:
             self.labels[len(self.script)] = label
         if words[0] == "at" and words[2] in ("plug", "unplug") and not is_refused:
             self.parents[words[3]] = (words[4], int(words[5])) if words[2] == "plug" else None
+        if answer["type"] == "horizon":
+            self.horizon = answer["at"]
+        # Who is told may send at once, at the horizon.
         for each in told:
             self.tell(each)
         return answer
@@ -136,7 +139,7 @@ class Room:
 
     def step(self, until):
         """Goes on to where one more event or round is over, at most to an instant."""
-        self.horizon = self.ask("wait %d" % until)["at"]
+        self.ask("wait %d" % until)
         for seat in self.seats.values():
             seat.settle()
 
