@@ -283,11 +283,11 @@ def test_adapter_itself(tests, program):
 
 
 def test_several_addresses(tests, program):
-    """An adapter of three types has an address of each: of players and recorders the second, as another one has the first."""
-    command = 'cec-ctl --playback --tuner --record >/dev/null; "{0}" show dut'.format(INSIDE)
+    """An adapter of three types has an address of each: of players the second, as another one has the first."""
+    command = 'cec-ctl --playback --tuner --processor >/dev/null; "{0}" show dut'.format(INSIDE)
     ran = Ran(program, "play", ["dut"], ["bash", "-c", command])
     state = re.search(r"^= state dut .*$", ran.out, re.M)
-    tests.expect("an adapter of three types holds three addresses", state and sorted(state[0].split()[4].split("+")) == ["2", "3", "8"], ran.out + ran.err)
+    tests.expect("an adapter of three types holds three addresses", state and sorted(state[0].split()[4].split("+")) == ["3", "8", "e"], ran.out + ran.err)
     tests.expect("the script of three addresses gives the trace", ran.is_replayed(program))
     ran.forget()
 
