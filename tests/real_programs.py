@@ -277,7 +277,8 @@ def test_workflow(tests, program):
 
 
 def test_adapter_itself(tests, program):
-    ran = Ran(program, "play", ["dut"], ["bash", "-c", "cec-ctl --playback >/dev/null; exec cec-compliance -A -s"])
+    """In a room without an amplifier, as cec-compliance wants an address of each of four types, one of them that of audio systems."""
+    ran = Ran(program, "alone", ["dut"], ["bash", "-c", "cec-ctl --playback >/dev/null; exec cec-compliance -A -s"])
     tests.expect("cec-compliance of the adapter itself", ran.total() == (ADAPTER_TESTS, ADAPTER_TESTS), ran.out[-2000:] + ran.err)
     ran.forget()
 
