@@ -265,7 +265,6 @@ edid --merge --hex --nth 2
 edid --merge --eeodb
 edid --ddc --raw
 edid --text --text
-mon --edges
 mon --from
 mon --from wav
 mon --signal
