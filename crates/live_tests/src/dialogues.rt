@@ -192,5 +192,5 @@ fn answers_each_line_before_the_next(rt: HostRuntime) {
 #[test]
 fn takes_a_pulse_into_a_round_that_has_begun(rt: HostRuntime) {
     is_said(&rt, PULSE, "script line 13: end");
-    is_said(&rt, SEATS, "script line 19: end");
+    is_said(&rt, SEATS, "script line 20: end");
 }

@@ -118,7 +118,7 @@ fn spelled(rt: &(impl Abort + AllocGlobal), dialogue: &str) -> String {
 
 #[test]
 fn each_line_has_its_object(rt: HostRuntime) {
-    for (dialogue, end) in [(ALONE, ""), (SEATS, "script line 9: end")] {
+    for (dialogue, end) in [(ALONE, ""), (SEATS, "script line 10: end")] {
         let input = sent_in(&rt, dialogue);
         let (said, ended) = said_as(&rt, Form::Json, input.as_slice(), usize::MAX);
         let want = spelled(&rt, dialogue);
