@@ -5,24 +5,10 @@ use std::io::{self, ErrorKind, Read, Write};
 use std::process::Abort;
 use text_core::Writes;
 
-mod captures;
-mod command_line;
-mod edge_files;
-mod edid_flags;
-mod edid_merges;
-mod edid_sources;
-mod edids;
-mod expectations;
+mod faults;
 mod files;
-mod flags;
-mod frames;
-mod hostile;
-mod limits;
-mod refused_texts;
-mod runs;
-mod sessions;
-mod sweeps;
-mod trees;
+mod readers;
+mod writers;
 
 /// A writer that takes what it is handed, or, where its room is bounded, one byte at a time, and fails once that is full.
 #[derive(Drop)]
@@ -55,14 +41,6 @@ struct Answer {
     status: u8,
     out: Vec<u8>,
     err: Vec<u8>,
-}
-
-/// A case, its command line after the program's name, its input, and what the program writes.
-struct Case<'a> {
-    name: &'a str,
-    line: &'a str,
-    input: &'a str,
-    want: &'a str,
 }
 
 /// Where a case does not come out right, its command line and its name are told.
@@ -140,26 +118,6 @@ fn ends(
     expect(rt, right, line, name);
 }
 
-/// The program writes this, and nothing else.
-fn gives(rt: &(impl Abort + AllocGlobal), line: &str, name: &str, input: &[u8], want: &str) {
-    let reported = reported_of(rt, line, input, None);
-    ends(rt, reported, 0, want.as_bytes(), b"", line, name);
-}
-
-/// The program writes what each of these cases wants, and nothing else.
-fn gives_each(rt: &(impl Abort + AllocGlobal), cases: &[Case<'_>]) {
-    for case in cases {
-        gives(rt, case.line, case.name, case.input.as_bytes(), case.want);
-    }
-}
-
-/// The program refuses this input with this fault, and writes nothing to standard output.
-fn refuses(rt: &(impl Abort + AllocGlobal), line: &str, name: &str, input: &[u8], cause: &str) {
-    let fault = format!(in rt.alloc(); "hdminet: {cause}\n").expect(rt, "a fault");
-    let reported = reported_of(rt, line, input, None);
-    ends(rt, reported, 1, b"", fault.as_bytes(), line, name);
-}
-
 /// What the program writes to standard output, and nothing else.
 fn written(rt: &(impl Abort + AllocGlobal), line: &str, input: &[u8]) -> String {
     let reported = reported_of(rt, line, input, None);
@@ -186,55 +144,4 @@ fn writes_front(rt: &(impl Abort + AllocGlobal), line: &str, input: &[u8], front
         line,
         fault.as_str(),
     );
-}
-
-/// Writes byte by byte, into a writer with room for all and into one that fails after each count of bytes in turn.
-fn is_cut(rt: &(impl Abort + AllocGlobal), line: &str, input: &[u8]) {
-    let whole = written(rt, line, input);
-    let whole = whole.as_bytes();
-    let reported = reported_of(rt, line, input, Some(whole.len()));
-    ends(rt, reported, 0, whole, b"", line, "byte by byte");
-    expect(rt, !whole.is_empty(), line, "something written");
-    for room in 0..whole.len() {
-        writes_front(rt, line, input, &whole[..room]);
-    }
-}
-
-/// The program takes an input and reports no fault, or refuses it, says why and writes nothing. Returns which.
-fn is_taken(rt: &(impl Abort + AllocGlobal), line: &str, input: &[u8]) -> bool {
-    let reported = reported_of(rt, line, input, None);
-    let taken = reported.status == 0 && reported.err.is_empty();
-    let refused = reported.status == 1
-        && reported.out.is_empty()
-        && reported.err.starts_with(b"hdminet: ");
-    expect(rt, taken || refused, line, "taken or refused");
-    taken
-}
-
-/// Of the fronts of an input, the empty one and the whole one too, the program takes so many.
-fn takes_fronts(rt: &(impl Abort + AllocGlobal), line: &str, input: &[u8], count: usize) {
-    let mut taken = 0usize;
-    for length in 0..=input.len() {
-        if is_taken(rt, line, &input[..length]) {
-            taken = taken.saturating_add(1);
-        }
-    }
-    expect(rt, taken == count, line, "fronts");
-}
-
-/// The two parts of a case.
-fn two_parts<'a>(rt: &impl Abort, case: &'a str) -> (&'a str, &'a str) {
-    case.split_once(" => ").expect(rt, case)
-}
-
-/// The three parts of a case.
-fn three_parts<'a>(rt: &impl Abort, case: &'a str) -> (&'a str, &'a str, &'a str) {
-    let (first, rest) = two_parts(rt, case);
-    let (second, third) = two_parts(rt, rest);
-    (first, second, third)
-}
-
-/// A text with a line feed for each `;`.
-fn with_lines(rt: &(impl Abort + AllocGlobal), text: &str) -> String {
-    text.replace(rt.alloc(), ";", "\n").expect(rt, "a text")
 }
