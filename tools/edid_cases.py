@@ -1,4 +1,4 @@
-"""EDIDs and frames of tools/cases.py that go through tables: blocks with each bit flipped; data blocks, descriptors and sections with
+"""EDIDs and frames of tools/bytes_cases.py that go through tables: blocks with each bit flipped; data blocks, descriptors and sections with
 each of their codes; those that stand in texts of tests, each half of a byte with each value; and opcodes with each operand."""
 import itertools
 import re

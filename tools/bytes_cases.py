@@ -1,7 +1,7 @@
 """The cases of tools/bytes: each a name, a command line and an input, alike for a start and a tree.
 
-They are made of the examples by each set of flags that fits; each --help, and command lines that are refused; command lines and
-inputs in the texts of the crates of tests; stdin and args of crates; EDIDs and frames that go through tables (tools/edid_cases.py);
+They are made of the examples by each set of flags that fits; each --help, and command lines that are refused; the cases of tests/cases/;
+command lines and inputs in the texts of the crates of tests; stdin and args of crates; EDIDs and frames that go through tables (tools/edid_cases.py);
 EDIDs with bits flipped; the lines of runs, and captures, in each form, whole and damaged; inputs of the generators of tools/model,
 and inputs of all these that are damaged."""
 import glob
@@ -10,13 +10,16 @@ import multiprocessing
 import os
 import random
 import re
+import shlex
 import subprocess
 import sys
 
 import edid_cases
 import tables
 
-sys.path.append(os.path.join(os.path.dirname(os.path.realpath(__file__)), 'model'))
+TOOLS = os.path.dirname(os.path.realpath(__file__))
+sys.path += [os.path.join(TOOLS, 'model'), os.path.join(TOOLS, '../tests')]
+import cases as tested  # pylint: disable=wrong-import-position
 
 EDID_FLAGS = [['--text'], ['--words'], ['--hex'], ['--raw'], ['--check'], ['--meaning'], ['--only-address'], ['--ddc'], ['--merge'], ['--eeodb'], ['--as-source'],
               ['--address', '2.1.0.0'], ['--port', '3'], ['--below', 'amp'], ['--speakers', 'own'], ['--rows', 'video=own,audio=keep'], ['--nth', '2'], ['--explain']]
@@ -95,6 +98,19 @@ def texts(top):
     for path in tables.files(top, 'crates/*_tests/src/**/*.rt'):
         for text, _ in tables.texts_of(tables.read(path), tables.RUST):
             yield text
+    for case in tested_cases():
+        yield from (tested.whole(it.text) for it in case.sections if len(it.text) < LONGEST)
+
+
+def tested_cases():
+    """the cases of tests/cases/ that have no file"""
+    for path in tested.files_of():
+        yield from (case for case in tested.cases_of(path) if not any(it.name == 'file' for it in case.sections))
+
+
+def of_cases(program):
+    for case in tested_cases():
+        yield shlex.split(case.commands[0]), tested.Run(program, case, '.').input
 
 
 def room_commands(text):
@@ -257,6 +273,7 @@ def all_cases(top, program, count, start, processes):
     r, cases = random.Random(start), Cases()
     cases.add('help', of_helps())
     cases.add('stdin', of_folders(top))
+    cases.add('case', of_cases(os.path.realpath(program)))
     cases.add('example', of_examples(top))
     of_tests = cases.named('test', of_texts(top))
     cases.all += r.sample(of_tests, min(len(of_tests), count // 8))
