@@ -18,6 +18,7 @@ standard input, up to the next one that begins with `-- ` or `== `. An empty lin
     -- in           goes on with standard input
     -- out, -- err  are the whole of standard output and standard error; where there is none, nothing is written there
     -- status 1     is the status, 0 where none is given
+    -- only RE      compares those lines of standard output alone in which this pattern (of Python's re) is found
     -- file NAME    is a file in the folder in which the program runs; before the first case, for all cases
     -- fronts 9     says that each front of the input, the empty one and the whole one too, is taken in silence or refused with status 1,
                     a fault and no output, and that so many of them are taken
@@ -57,7 +58,7 @@ import tempfile
 from built import TOP, programs, told
 
 CASES = os.path.join(TOP, "tests/cases")
-SECTIONS = ("in", "out", "err", "status", "file", "fronts", "rows", "each")
+SECTIONS = ("in", "out", "err", "status", "only", "file", "fronts", "rows", "each")
 # How long one run may take, in seconds, and how many lines of a difference are shown.
 LIMIT, SHOWN = 60, 24
 # The low and the high part of a start bit and of bits (CEC 5.2), and how long a line is high at the end of slots, in microseconds.
@@ -287,6 +288,13 @@ class Run:
         for way, data in faults:
             raise Fault("standard %s is not as wanted (%s)\n%s" % ({"out": "output", "err": "error"}[name], way, differing(data, written)))
 
+    def kept(self, written):
+        """The lines of what is written that are compared."""
+        lines = written.splitlines(keepends=True)
+        for section in self.named("only"):
+            lines = [line for line in lines if re.search(section.words.encode(), line)]
+        return b"".join(lines)
+
     def take_fronts(self, count):
         """Tries each front of the input, of which so many are taken."""
         taken = 0
@@ -305,7 +313,7 @@ class Run:
             return self.take_fronts(int(section.words))
         answer = self.ran(self.case.commands[0], self.input)
         self.compare("err", answer.err)
-        self.compare("out", answer.out)
+        self.compare("out", self.kept(answer.out))
         status = ([int(it.words) for it in self.named("status")] or [0])[-1]
         if answer.status != status:
             raise Fault("the status is %d, and not %d" % (answer.status, status))

@@ -4,8 +4,4 @@
 #[cfg(test)]
 mod audits;
 #[cfg(test)]
-mod captures;
-#[cfg(test)]
-mod margins;
-#[cfg(test)]
 mod objects;
