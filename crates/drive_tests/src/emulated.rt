@@ -1,5 +1,4 @@
-//! Dumps of runs.
-use crate::rows::{DUMP, POLL, SCRIPT, TOPOLOGY};
+//! Dumps of runs into writers that take few bytes a call, and that fail. What they hold stands in tests/cases/drives.txt.
 use room_driven::{Wires, emulate_drives};
 use std::io::{self, ErrorKind, Write};
 use std::process::Abort;
@@ -30,22 +29,25 @@ impl Write for Narrow {
     }
 }
 
+/// A television with four ports, and a player in its first port.
+const TOPOLOGY: &str = "\
+device tv tv 4
+device p1 player 0
+plug p1 tv 1
+";
+
+/// The television polls its address.
+const POLL: &str = "end 40000\n";
+
 /// What is written of a run, and why it was refused, or an empty text.
 #[derive(Drop)]
-pub struct Written {
+struct Written {
     bytes: Vec<u8>,
     refusal: String,
 }
 
-/// What is written of a run into a writer that takes so many bytes a call, and fails where so many have come.
-pub fn dumped(
-    rt: &(impl Abort + AllocGlobal),
-    topology: &str,
-    script: &str,
-    wires: Wires,
-    most: usize,
-    room: usize,
-) -> Written {
+/// What is written of a poll into a writer that takes so many bytes a call, and fails where so many have come.
+fn dumped(rt: &(impl Abort + AllocGlobal), wires: Wires, most: usize, room: usize) -> Written {
     let mut narrow = Narrow {
         bytes: Vec::new(rt.alloc()),
         most,
@@ -54,8 +56,8 @@ pub fn dumped(
     let mut out = Writes::new(&mut narrow);
     let outcome = emulate_drives(
         rt.alloc(),
-        topology.as_bytes(),
-        script.as_bytes(),
+        TOPOLOGY.as_bytes(),
+        POLL.as_bytes(),
         wires,
         &mut out,
     );
@@ -69,10 +71,10 @@ pub fn dumped(
     }
 }
 
-/// This text was written, with this refusal.
-pub fn is_written(rt: &impl Abort, reported: Written, text: &str, refusal: &str) {
+/// These bytes are written, with this refusal.
+fn is_written(rt: &impl Abort, reported: Written, bytes: &[u8], refusal: &str) {
     assert!(rt;
-        reported.bytes.as_slice() == text.as_bytes(),
+        reported.bytes.as_slice() == bytes,
         "another text, with `{refusal}`"
     );
     assert!(rt;
@@ -82,95 +84,26 @@ pub fn is_written(rt: &impl Abort, reported: Written, text: &str, refusal: &str)
     );
 }
 
-/// The dump of a run, over a writer that takes all bytes, and over one that takes one a call.
-fn dumps_come_out(rt: &(impl Abort + AllocGlobal)) {
-    is_written(
-        rt,
-        dumped(rt, TOPOLOGY, SCRIPT, Wires::Plain, usize::MAX, usize::MAX),
-        DUMP,
-        "",
-    );
-    is_written(
-        rt,
-        dumped(rt, TOPOLOGY, SCRIPT, Wires::Plain, 1, usize::MAX),
-        DUMP,
-        "",
-    );
-}
-
-/// A refused text writes nothing.
-fn refusals_write_nothing(rt: &(impl Abort + AllocGlobal)) {
-    is_written(
-        rt,
-        dumped(
-            rt,
-            "devise tv tv 1\n",
-            SCRIPT,
-            Wires::Plain,
-            usize::MAX,
-            usize::MAX,
-        ),
-        "",
-        "topology line 1: word",
-    );
-    is_written(
-        rt,
-        dumped(
-            rt,
-            TOPOLOGY,
-            "stop 5\n",
-            Wires::Named,
-            usize::MAX,
-            usize::MAX,
-        ),
-        "",
-        "script line 1: word",
-    );
-}
-
-/// Three pulls under the low of the poll's start bit, and one that outlasts its reading and the script, each on the wire of the
-/// pulses.
-fn pulls_are_dumped(rt: &(impl Abort + AllocGlobal)) {
-    let script = "pull 12500 10\npull 12600 10\npull 13000 100\npull 38200 20000\nend 40000\n";
-    let (start, bits) = POLL.split_once("#15700\n").expect(rt, "the rise");
-    let (bits, _end) = bits.split_once("#38700\n").expect(rt, "the last rise");
-    let first = "#12500\n0c\n#12510\n1c\n#12600\n0c\n#12610\n1c\n#13000\n0c\n#13100\n1c\n#15700\n";
-    let last = "#38200\n0c\n#38700\n1a\n#58200\n1!\n1c\n#58200\n";
-    let text = format!(in rt.alloc(); "{start}{first}{bits}{last}").expect(rt, "a text");
-    is_written(
-        rt,
-        dumped(rt, TOPOLOGY, script, Wires::Plain, usize::MAX, usize::MAX),
-        text.as_str(),
-        "",
-    );
-}
-
-/// A writer that fails at a byte has all bytes before it, and the count is reported.
-fn faults_are_counted(rt: &(impl Abort + AllocGlobal)) {
-    for room in 0..POLL.len() {
-        let reported = dumped(rt, TOPOLOGY, "end 40000\n", Wires::Plain, usize::MAX, room);
+/// A writer that fails at a byte has all bytes before it, and the count is reported; one that takes a byte a call has them all.
+fn is_cut(rt: &(impl Abort + AllocGlobal), wires: Wires) {
+    let whole = dumped(rt, wires, usize::MAX, usize::MAX);
+    assert!(rt; whole.refusal.is_empty() && whole.bytes.starts_with(b"$version hdminet $end\n"));
+    let whole = whole.bytes;
+    is_written(rt, dumped(rt, wires, 1, usize::MAX), &whole, "");
+    for room in 0..whole.len() {
         let refusal = format!(in rt.alloc(); "write fault after {room} bytes").expect(rt, "a text");
-        let front = POLL.as_bytes().get(..room).unwrap_or(b"");
-        assert!(rt;
-            reported.bytes.as_slice() == front,
-            "another front at {room}"
-        );
-        assert!(rt;
-            reported.refusal.as_str() == refusal.as_str(),
-            "{}",
-            reported.refusal
-        );
+        let front = whole.get(..room).unwrap_or(b"");
+        let reported = dumped(rt, wires, usize::MAX, room);
+        is_written(rt, reported, front, refusal.as_str());
     }
 }
 
 #[test]
-fn runs_are_dumped(rt: HostRuntime) {
-    dumps_come_out(&rt);
-    pulls_are_dumped(&rt);
-    refusals_write_nothing(&rt);
+fn faults_come_at_each_byte(rt: HostRuntime) {
+    is_cut(&rt, Wires::Plain);
 }
 
 #[test]
-fn faults_come_at_each_byte(rt: HostRuntime) {
-    faults_are_counted(&rt);
+fn faults_come_at_each_byte_of_names(rt: HostRuntime) {
+    is_cut(&rt, Wires::Named);
 }

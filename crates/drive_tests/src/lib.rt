@@ -1,11 +1,7 @@
-//! Tests of who drives the line: rounds that were worked out by hand, and the dumps of runs.
+//! Tests of who drives the line: rounds that were worked out by hand, and dumps of runs into writers that fail.
 #![tactic(auto)]
 
 #[cfg(test)]
 mod emulated;
 #[cfg(test)]
-mod named;
-#[cfg(test)]
 mod rounds;
-#[cfg(test)]
-mod rows;

@@ -1,5 +1,4 @@
 //! Each call over writers that take few bytes a call, and that fail.
-use crate::rows::{ROWS, Row};
 use capture_forms::CaptureForm;
 use capture_monitor::watch;
 use conversion_calls::{edid_to_text, text_to_hex};
@@ -130,6 +129,14 @@ fn spell_edid(rt: &(impl Abort + AllocGlobal), input: &str, out: &mut Out<'_>) -
     refusal(rt, write_text(&edid, out))
 }
 
+/// The digits of an EDID's text, which is made of its digits first.
+fn spell_digits(rt: &(impl Abort + AllocGlobal), input: &str, out: &mut Out<'_>) -> String {
+    let mut text = Vec::new(rt.alloc());
+    let made = edid_to_text(&bytes_of(rt, input), &mut Writes::new(&mut text));
+    assert!(rt; made.is_ok(), "{input}");
+    refusal(rt, text_to_hex(rt.alloc(), &text, out))
+}
+
 /// Makes the call of a row, and returns why it wrote no more.
 fn call(rt: &(impl Abort + AllocGlobal), row: &Row<'_>, out: &mut Out<'_>) -> String {
     let input = row.input;
@@ -145,31 +152,43 @@ fn call(rt: &(impl Abort + AllocGlobal), row: &Row<'_>, out: &mut Out<'_>) -> St
         "write_frame" => spell_frame(rt, input, out),
         "edid_to_text" => convert(rt, input, out),
         "write_text" => spell_edid(rt, input, out),
-        _ => refusal(rt, text_to_hex(rt.alloc(), input.as_bytes(), out)),
+        _ => spell_digits(rt, input, out),
     }
 }
 
-/// The call writes as much of its text as there is room for, and returns how much that is where it is not all.
-fn writes_front(rt: &(impl Abort + AllocGlobal), row: &Row<'_>, most: usize, room: usize) {
+/// What the call writes into a writer that takes so many bytes a call and has so much room, and why it wrote no more.
+fn written(
+    rt: &(impl Abort + AllocGlobal),
+    row: &Row<'_>,
+    most: usize,
+    room: usize,
+) -> (Vec<u8>, String) {
     let mut held = Narrow {
         bytes: Vec::new(rt.alloc()),
         most,
         room,
     };
     let reported = call(rt, row, &mut Writes::new(&mut held));
-    let want = row.want.as_bytes();
-    let right = match want.get(..room) {
-        Some(front) if room < want.len() => {
-            let fault = format!(in rt.alloc(); "write fault after {room} bytes");
-            held.bytes.as_slice() == front && reported == fault.expect(rt, "a fault")
-        }
-        _ => held.bytes.as_slice() == want && reported.is_empty(),
-    };
-    assert!(rt;
-        right,
-        "{}, {most} bytes a call, room for {room}: {reported}",
-        row.call
-    );
+    (held.bytes, reported)
+}
+
+/// The call writes as much of its text as there is room for, and says how much that is where it is not all.
+fn writes_front(rt: &(impl Abort + AllocGlobal), row: &Row<'_>, whole: &[u8], most: usize) {
+    for room in 0..=whole.len() {
+        let (bytes, reported) = written(rt, row, most, room);
+        let right = match whole.get(..room) {
+            Some(front) if room < whole.len() => {
+                let fault = format!(in rt.alloc(); "write fault after {room} bytes");
+                bytes.as_slice() == front && reported == fault.expect(rt, "a fault")
+            }
+            _ => bytes.as_slice() == whole && reported.is_empty(),
+        };
+        assert!(rt;
+            right,
+            "{}, {most} bytes a call, room for {room}: {reported}",
+            row.call
+        );
+    }
 }
 
 /// How many bytes a writer takes a call: one, and as many as it is given.
@@ -178,10 +197,115 @@ const MOST: &[usize] = &[1, usize::MAX];
 #[test]
 fn each_call_writes_the_front_that_its_writer_takes(rt: HostRuntime) {
     for row in ROWS {
+        let (whole, reported) = written(&rt, row, usize::MAX, usize::MAX);
+        assert!(&rt; reported.is_empty() && !whole.is_empty(), "{}", row.call);
         for most in MOST {
-            for room in 0..=row.want.len() {
-                writes_front(&rt, row, *most, room);
-            }
+            writes_front(&rt, row, &whole, *most);
         }
     }
 }
+
+/// A call, and what it is given. What it then writes stands in examples/ and in tests/cases.
+struct Row<'a> {
+    call: &'a str,
+    input: &'a str,
+}
+
+const ROWS: &[Row<'static>] = &[
+    Row {
+        call: "emulate",
+        input: FIRST_PATH,
+    },
+    Row {
+        call: "emulate_edges",
+        input: POLL,
+    },
+    Row {
+        call: "emulate_line vcd",
+        input: POLL,
+    },
+    Row {
+        call: "emulate_line pin",
+        input: POLL,
+    },
+    Row {
+        call: "emulate_line csv",
+        input: POLL,
+    },
+    Row {
+        call: "step_run",
+        input: STEPS,
+    },
+    Row {
+        call: "watch",
+        input: EDGES,
+    },
+    Row {
+        call: "asm_lines",
+        input: FRAMES,
+    },
+    Row {
+        call: "write_frame",
+        input: "44",
+    },
+    Row {
+        call: "write_frame",
+        input: "04475456",
+    },
+    Row {
+        call: "edid_to_text",
+        input: EDID,
+    },
+    Row {
+        call: "write_text",
+        input: EDID,
+    },
+    Row {
+        call: "text_to_hex",
+        input: EDID,
+    },
+];
+
+/// A television with a player in its first port, whose key `play` is pressed.
+const FIRST_PATH: &str = "\
+device tv tv 4
+device p1 player 0
+plug p1 tv 1
+script
+at 1000000 press p1 play
+end 1500000
+";
+
+/// A television that polls its address.
+const POLL: &str = "device tv tv 1\nscript\nend 20000\n";
+
+/// A television with a player, and single steps of their run.
+const STEPS: &str = "\
+device tv tv 4
+device p1 player 0
+plug p1 tv 1
+script
+end 400000
+steps
+until device p1
+show p1
+until opcode 84
+until break
+round
+";
+
+/// A captured line with two readings.
+const EDGES: &str = "1000 0\n4700 1\n5500 0\n6100 1\n30000 0\n30400 1\n40000 end\n";
+
+/// Frames as texts.
+const FRAMES: &str = "\
+# The player takes its address, and is asked for its name.
+4>4
+0>4 give-osd-name
+4>0 set-osd-name \"P1\"
+0>4 play :99
+";
+
+/// An EDID of two blocks.
+const EDID: &str =
+    "00ffffffffffff0010ac0041000000000c1e0104a53c22783eee91a3544c99260f5054a54b008180a9c0d1c001010101010101010101023a801871382d40582c450056502100001e000000ff00434656394e303132330a202020000000fc004445534b204d4f4e49544f520a000000fd00314b1e5311010a202020202020018f020315f14590040302012309070783010000e200ca011d007251d01e206e28550056502100001e00000000000000000000000000000000000000000000000000000000000000000000000000000000000000000000000000000000000000000000000000000000000000000000000000000000000000000000000000000000ed\n";
