@@ -19,6 +19,7 @@ standard input, up to the next one that begins with `-- ` or `== `. An empty lin
     -- out, -- err  are the whole of standard output and standard error; where there is none, nothing is written there
     -- status 1     is the status, 0 where none is given
     -- only RE      compares those lines of standard output alone in which this pattern (of Python's re) is found
+    -- turns        is a dialogue: each line after `> ` is sent once that is written which stands below the one above, and no more
     -- file NAME    is a file in the folder in which the program runs; before the first case, for all cases
     -- fronts 9     says that each front of the input, the empty one and the whole one too, is taken in silence or refused with status 1,
                     a fault and no output, and that so many of them are taken
@@ -40,7 +41,7 @@ Words after a section's name say how it is read:
     with A => B     the first A of the section is B
     of COMMAND      is what the program writes for this command line of the section, or of standard input where the section is empty
 
-`{NAME}` stands for tests/cases/files/NAME without its last line feed, and `{TEXT*9}` for a text nine times.
+`{NAME}` stands for tests/cases/files/NAME without its last line feed, and `{TEXT*9}` for a text nine times; inner ones come first.
 
 PROGRAM is crates/hdminet/out/hdminet, and what Rattle's own compiler makes of the same sources, hdminet.by-rattle beside it, where none
 is given. The last line is 'cases: N passed, M failed', and the status is 0 where M is 0."""
@@ -54,11 +55,12 @@ import shlex
 import subprocess
 import sys
 import tempfile
+import threading
 
 from built import TOP, programs, told
 
 CASES = os.path.join(TOP, "tests/cases")
-SECTIONS = ("in", "out", "err", "status", "only", "file", "fronts", "rows", "each")
+SECTIONS = ("in", "out", "err", "status", "only", "turns", "file", "fronts", "rows", "each")
 # How long one run may take, in seconds, and how many lines of a difference are shown.
 LIMIT, SHOWN = 60, 24
 # The low and the high part of a start bit and of bits (CEC 5.2), and how long a line is high at the end of slots, in microseconds.
@@ -168,9 +170,10 @@ def whole(text):
     """A text with what stands in braces."""
     def known(found):
         if found[1]:
-            return whole(read(os.path.join(CASES, "files", found[1])).removesuffix("\n"))
+            return read(os.path.join(CASES, "files", found[1])).removesuffix("\n")
         return found[2] * int(found[3])
-    return re.sub(r'\{(?:([\w.-]+)|([^{}"]+)\*(\d+))\}', known, text)
+    known_text = re.sub(r'\{(?:([\w.-]+)|([^{}"]+)\*(\d+))\}', known, text)
+    return text if known_text == text else whole(known_text)
 
 
 def bytes_of(text):
@@ -307,11 +310,29 @@ class Run:
         if taken != count:
             raise Fault("%d fronts are taken, and not %d" % (taken, count))
 
+    def talk(self, text):
+        """Sends the lines of a dialogue in turn, and answers as if they had come together."""
+        said, turns = [], re.findall(r"> (.*\n)((?:(?!> ).*\n)*)", text)
+        words = [self.program, *shlex.split(self.case.commands[0])]
+        with subprocess.Popen(words, stdin=subprocess.PIPE, stdout=subprocess.PIPE, stderr=subprocess.PIPE, cwd=self.folder) as live:
+            timer = threading.Timer(LIMIT, live.kill)
+            timer.start()
+            for sent, answers in turns:
+                live.stdin.write(sent.encode())
+                live.stdin.flush()
+                said.append("> " + sent + "".join(live.stdout.readline().decode() for _ in answers.splitlines()))
+            rest, err = live.communicate()
+            timer.cancel()
+        if "".join(said) + rest.decode() != text:
+            raise Fault("the dialogue is another one\n%s" % differing(text.encode(), "".join(said).encode() + rest))
+        return Answer(live.returncode, b"", err)
+
     def judge(self):
         """Runs the program, and raises what is wrong."""
         for section in self.named("fronts"):
             return self.take_fronts(int(section.words))
-        answer = self.ran(self.case.commands[0], self.input)
+        turns = self.named("turns")
+        answer = self.talk(whole(turns[0].text)) if turns else self.ran(self.case.commands[0], self.input)
         self.compare("err", answer.err)
         self.compare("out", self.kept(answer.out))
         status = ([int(it.words) for it in self.named("status")] or [0])[-1]

@@ -155,6 +155,21 @@ def in_order(script):
     return sorted((line for line in lines if not line.startswith('end ')), key=instant) + [line for line in lines if line.startswith('end ')]
 
 
+def rooms():
+    """The rooms of examples/ and of tests/rooms/: the name of each, and its text."""
+    for folder in ('examples', 'tests/rooms'):
+        for name in sorted(os.listdir(os.path.join(TOP, folder))):
+            if name.endswith('.net'):
+                with open(os.path.join(TOP, folder, name)) as file:
+                    yield name, file.read()
+
+
+def edges_of(text):
+    """The edges of a run, as a session tells them."""
+    ran = subprocess.run([PROGRAM, 'run', '--edges'], input=text.encode(), stdout=subprocess.PIPE).stdout.decode()
+    return ['~ %s\n' % line for line in ran.split('\n') if line and not line.endswith(' end')]
+
+
 def is_trace(text, start):
     """A script, cut into a session at random with other lines between, tells what `run` writes of the lines that were taken."""
     numbers = random.Random(start)
@@ -186,17 +201,67 @@ def is_trace(text, start):
     return right and ''.join(s.trace) == run(topology + 'script\n' + ''.join(line + '\n' for line in s.script))
 
 
-def examples_cut():
+def rooms_cut():
     right = True
-    for name in sorted(os.listdir(os.path.join(TOP, 'examples'))):
-        if name.endswith('.net'):
-            with open(os.path.join(TOP, 'examples', name)) as file:
-                text = file.read()
-            for start in range(20):
-                if not is_trace(text, start):
-                    print('live: %s, cut by %d, is another trace' % (name, start))
-                    right = False
+    for name, text in rooms():
+        for start in range(20):
+            if not is_trace(text, start):
+                print('live: %s, cut by %d, is another trace' % (name, start))
+                right = False
     return right
+
+
+def are_edges(text, start):
+    """A script, cut into a session with edges at random with lines that are refused between, tells the edges of its run."""
+    numbers = random.Random(start)
+    topology, script = text.split('\nscript\n', 1)
+    s, now = Session(topology + '\nscript\n'), 0
+    s.ask('edges on')
+    for line in script.splitlines():
+        for _ in range(numbers.randrange(4)):
+            kind = numbers.randrange(3)
+            now = numbers.randint(now, max(now, instant(line))) if kind == 2 else now
+            s.ask(['frob', '# a remark', 'run to %d' % now][kind])
+        s.ask(line)
+    return s.ended() == (0, '', '') and s.edges == edges_of(text)
+
+
+def come_one_by_one(text, count):
+    """A session that is asked for one edge so many times, up to the end of its script, tells the edges of its run, and at most one for
+    each answer."""
+    topology, script = text.split('\nscript\n', 1)
+    s, right = Session(topology + '\nscript\n'), True
+    for line in script.splitlines():
+        if line.startswith('end '):
+            for _ in range(count):
+                many = len(s.edges)
+                s.ask('edge ' + line.split()[1])
+                right = right and len(s.edges) <= many + 1
+            s.ask('edges on')
+        s.ask(line)
+    return right and s.ended() == (0, '', '') and s.edges == edges_of(text)
+
+
+def rooms_by_edges():
+    """Sessions tell the edges that `run --edges` writes, all together, cut at random, and edge after edge."""
+    right = True
+    for name, text in rooms():
+        told = [are_edges(text, 10), are_edges(text, 11), come_one_by_one(text, 0), come_one_by_one(text, 7), come_one_by_one(text, 2000)]
+        if not all(told):
+            print('live: %s has other edges: %s' % (name, told))
+            right = False
+    return right
+
+
+def five_thousand_pulses():
+    """A session in which time goes on after each pulse takes 5,000 of them, and tells the rounds of a run that has the first 4,096."""
+    onsets = [25_100 * number + 1_000 * (number % 30) + 30_000 * (number // 30) for number in range(5_001)]
+    s = Session('device tv tv 1\nscript\n')
+    right = all(s.ask('pulse %d 100' % at)[0] == '=' and s.ask('run to %d' % at) == '= %d\n' % at for at in onsets[:5_000])
+    right = right and s.ask('end %d' % onsets[5_000])[0] == '=' and s.ended() == (0, '', '')
+    script = ''.join('pulse %d 100\n' % at for at in onsets[:4_096]) + 'end %d\n' % onsets[4_096]
+    rounds = run('device tv tv 1\nscript\n' + script).split('state ')[0]
+    return right and ''.join(s.trace).startswith(rounds) and any(line.startswith('%d ' % onsets[4_999]) for line in s.trace)
 
 
 def pulses_let_go():
@@ -226,8 +291,7 @@ def edge_by_edge():
     right = right and s.ask('edge 999999').endswith(' past\n') and s.ask('edges on') == '= 1000000\n' and s.ask('end 1000000') == '= 1000000\n'
     right = right and s.ended() == (0, '', '')
     text = ROOM + ''.join(line + '\n' for line in s.script)
-    ran = subprocess.run([PROGRAM, 'run', '--edges'], input=text.encode(), stdout=subprocess.PIPE).stdout.decode()
-    edges = ['~ %s\n' % line for line in ran.split('\n') if line and not line.endswith(' end')]
+    edges = edges_of(text)
     return right and ' pulse ' in ' ' + text.replace('\n', ' ') and len(edges) > 200 and s.edges == edges and ''.join(s.trace) == run(text)
 
 
@@ -248,9 +312,7 @@ def is_held(start):
     right = all(s.ask('pin %d %d' % (horizon - 1, each))[0] == '!' for each in (0, 1)) and s.ask('end %d' % (horizon - 1)).endswith(' past\n')
     right = right and s.ask('end %d' % (horizon + 1000))[0] == '=' and s.ended() == (0, '', '')
     text = SEAT + ''.join(line + '\n' for line in s.script)
-    ran = subprocess.run([PROGRAM, 'run', '--edges'], input=text.encode(), stdout=subprocess.PIPE).stdout.decode()
-    edges = ['~ %s\n' % line for line in ran.split('\n') if line and not line.endswith(' end')]
-    return right and '\npin ' in text and s.edges == edges and ''.join(s.trace) == run(text)
+    return right and '\npin ' in text and s.edges == edges_of(text) and ''.join(s.trace) == run(text)
 
 
 def held_at_random():
@@ -365,7 +427,7 @@ def main():
         sys.exit('live: no program at %s: ./hdminet --prove builds it' % PROGRAM)
     signal.alarm(600)
     passed = failed = 0
-    for test in [answers_at_once, ends_early, has_faults, closed, objects, objects_closed, examples_cut, pulses_let_go, edge_by_edge, held_at_random, pin_by_levels, driver, device_under_test, television_under_test, claimed_twice, sent_together, shell, drivers_stop]:
+    for test in [answers_at_once, ends_early, has_faults, closed, objects, objects_closed, rooms_cut, rooms_by_edges, pulses_let_go, five_thousand_pulses, edge_by_edge, held_at_random, pin_by_levels, driver, device_under_test, television_under_test, claimed_twice, sent_together, shell, drivers_stop]:
         if test():
             passed += 1
         else:

@@ -2,20 +2,6 @@
 #![tactic(auto)]
 
 #[cfg(test)]
-mod cuts;
-#[cfg(test)]
-mod dialogues;
-#[cfg(test)]
-mod edges;
-#[cfg(test)]
 mod faults;
 #[cfg(test)]
-mod objects;
-#[cfg(test)]
-mod pins;
-#[cfg(test)]
 mod pipes;
-#[cfg(test)]
-mod pulses;
-#[cfg(test)]
-mod rooms;

@@ -75,17 +75,8 @@ impl<'a> Write for Told<'a> {
     }
 }
 
-/// What was said in a session with this input, over a writer with so much room, and how the session ended.
+/// What was said in a session with this input, in lines or in objects, over a writer with so much room, and how the session ended.
 pub(crate) fn said_in(
-    rt: &(impl Abort + AllocGlobal),
-    input: &[u8],
-    room: usize,
-) -> (Vec<u8>, Result<(), SessionError>) {
-    said_as(rt, Form::Text, input, room)
-}
-
-/// The same in lines or in objects.
-pub(crate) fn said_as(
     rt: &(impl Abort + AllocGlobal),
     form: Form,
     input: &[u8],
@@ -103,44 +94,15 @@ pub(crate) fn said_as(
     (said.into_inner(), end)
 }
 
-/// Some lines of what was said.
-#[derive(Clone, Copy)]
-pub(crate) enum Wanted {
-    /// What was written.
-    Written,
-    /// What was written without the answers and the edges.
-    Trace,
-    /// The edges.
-    Edges,
-    /// The answers, and the last lines of a trace.
-    Answers,
-}
-
-fn is_answer(line: &[u8]) -> bool {
-    line.starts_with(b"= ") || line.starts_with(b"! ")
-}
-
-fn is_wanted(wanted: Wanted, line: &[u8]) -> bool {
-    match wanted {
-        Wanted::Written => !line.starts_with(b"> "),
-        Wanted::Trace => !line.starts_with(b"> ") && !line.starts_with(b"~ ") && !is_answer(line),
-        Wanted::Edges => line.starts_with(b"~ "),
-        Wanted::Answers => is_answer(line)
-            || line.ends_with(b" end")
-            || line.starts_with(b"state "),
-    }
-}
-
-/// These lines of what was said, each with its end.
-pub(crate) fn lines_of(rt: &(impl Abort + AllocGlobal), said: &[u8], wanted: Wanted) -> Vec<u8> {
-    let mut kept = Vec::new(rt.alloc());
-    for line in said.split(|byte| *byte == b'\n') {
-        if !line.is_empty() && is_wanted(wanted, line) {
-            kept.extend_from_slice(line).expect(rt, "a line");
-            kept.extend_from_slice(b"\n").expect(rt, "its end");
+/// What was written of what was said: the lines that were sent are left out.
+pub(crate) fn written_in(rt: &(impl Abort + AllocGlobal), said: &[u8]) -> Vec<u8> {
+    let mut written = Vec::new(rt.alloc());
+    for line in said.split_inclusive(|byte| *byte == b'\n') {
+        if !line.starts_with(b"> ") {
+            written.extend_from_slice(line).expect(rt, "a line");
         }
     }
-    kept
+    written
 }
 
 /// How a session ended: nothing where it came to its end.
