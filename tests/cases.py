@@ -41,7 +41,7 @@ Words after a section's name say how it is read:
     with A => B     the first A of the section is B
     of COMMAND      is what the program writes for this command line of the section, or of standard input where the section is empty
 
-`{NAME}` stands for tests/cases/files/NAME without its last line feed, and `{TEXT*9}` for a text nine times; inner ones come first.
+`{NAME}` stands for a file of tests/cases/files or of examples/ without its last line feed, and `{TEXT*9}` for a text nine times; inner ones come first.
 
 PROGRAM is crates/hdminet/out/hdminet, and what Rattle's own compiler makes of the same sources, hdminet.by-rattle beside it, where none
 is given. The last line is 'cases: N passed, M failed', and the status is 0 where M is 0."""
@@ -170,7 +170,8 @@ def whole(text):
     """A text with what stands in braces."""
     def known(found):
         if found[1]:
-            return read(os.path.join(CASES, "files", found[1])).removesuffix("\n")
+            paths = [os.path.join(folder, found[1]) for folder in (os.path.join(CASES, "files"), os.path.join(TOP, "examples"))]
+            return read(next(filter(os.path.isfile, paths), paths[0])).removesuffix("\n")
         return found[2] * int(found[3])
     known_text = re.sub(r'\{(?:([\w.-]+)|([^{}"]+)\*(\d+))\}', known, text)
     return text if known_text == text else whole(known_text)

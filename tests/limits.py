@@ -101,6 +101,19 @@ def runs(count):
     count.taken('16,384 pulls, as edges', ['run', '--edges'], ROOM + ''.join(pulls[:PULLS]) + end, 2 * PULLS + 1, '1000000 0', last)
     count.taken('16,384 pulls, as objects', ['run', '--json'], ROOM + ''.join(pulls[:PULLS]) + end, PULLS + 2, None, None)
     count.refused('a pull more', ['run'], ROOM + ''.join(pulls) + end, 'script line %d: too-many' % (PULLS + 1), 1)
+    pulses(count)
+
+
+def pulses(count):
+    """4,096 pulses of 400, each 25,000 after the end of the one before: each opens a round of the television or falls into one, and
+    between two rounds the line is high for 7,200 at least"""
+    end = 104_100_000
+    script = ''.join('pulse %d 400\n' % (25_400 * k) for k in range(PULSES)) + 'end %d\n' % end
+    told, said, status = output(['run'], 'device tv tv 1\nscript\n' + script)
+    rounds = sum(line[0].isdigit() for line in told.splitlines()) - 1
+    count.note('4,096 pulses: status %d, %s' % (status, said.strip()), status == 0 and said == '')
+    count.note('4,096 pulses: %d rounds' % rounds, 4_000 <= rounds <= end // 7_200 + PULSES)
+    count.note('4,096 pulses: another begin or end', told.startswith('0 400 bad-start - by - out -\n') and told.endswith('\n%d end\n' % end))
 
 
 def sweeps(count):

@@ -1,4 +1,5 @@
-//! Tests of the network, the run and its steps: worked traces and steps, and sweeps over instants.
+//! Tests of the network, the run and its steps: rooms under pulls, steps that are refused or cut, and sweeps over instants. Worked
+//! traces and steps stand in tests/cases: traces.txt and steps.txt.
 #![tactic(auto)]
 
 #[cfg(test)]
@@ -13,8 +14,6 @@ mod networks;
 mod pulls;
 #[cfg(test)]
 mod rooms;
-#[cfg(test)]
-mod runs;
 #[cfg(test)]
 mod step_writers;
 #[cfg(test)]
