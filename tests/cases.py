@@ -35,6 +35,7 @@ Words after a section's name say how it is read:
     slots           the edge file of a line on which words are sent: `@T` waits up to an instant, `=4f36` is a frame whose blocks are all
                     taken, `S` a start bit, `0` and `1` are bits, and `1500/900` is a low and a high part in microseconds; 20,000 after
                     the last word the file ends, or there, where that word is `|`
+    pulls           the same as the lines `pull` of a script
     has             the text of the section stands in what is written; `begins`, `ends`: there
     lines           the lines of the section stand in what is written, in this order
     any             whatever is written
@@ -199,18 +200,30 @@ def slots_of(digits):
     return ["S"] + list("".join(blocks))
 
 
-def edges_of(text):
-    """The edge file of a section of slots."""
-    words, edges, at = text.split(), [], 0
-    for word in words:
+def lows_of(text):
+    """Each low of a section of slots, where it begins and how long it is, and where the last word ends."""
+    lows, at = [], 0
+    for word in text.split():
         if word.startswith("@"):
             at = int(word[1:])
             continue
         for slot in slots_of(word[1:]) if word.startswith("=") else [] if word == "|" else [word]:
             low, high = PARTS[slot] if slot in PARTS else map(int, slot.split("/"))
-            edges += ["%d 0\n" % at, "%d 1\n" % (at + low)]
+            lows.append((at, low))
             at += low + high
-    return ("".join(edges) + "%d end\n" % (at if words[-1:] == ["|"] else at + TAIL)).encode()
+    return lows, at
+
+
+def edges_of(text):
+    """The edge file of a section of slots."""
+    lows, end = lows_of(text)
+    end = end if text.split()[-1:] == ["|"] else end + TAIL
+    return ("".join("%d 0\n%d 1\n" % (at, at + low) for at, low in lows) + "%d end\n" % end).encode()
+
+
+def pulls_of(text):
+    """The pulls of a section of slots."""
+    return "".join("pull %d %d\n" % low for low in lows_of(text)[0]).encode()
 
 
 def parts_of(words):
@@ -220,7 +233,7 @@ def parts_of(words):
 
 
 # How the text of a section is read, and how it is compared with what is written.
-READ = {"hex": bytes_of, "digits": lambda text: bytes_of(text).hex().encode() + b"\n", "slots": edges_of}
+READ = {"hex": bytes_of, "digits": lambda text: bytes_of(text).hex().encode() + b"\n", "slots": edges_of, "pulls": pulls_of}
 FITS = {
     "has": lambda text, written: text in written,
     "begins": lambda text, written: written.startswith(text),

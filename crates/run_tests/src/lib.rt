@@ -1,5 +1,5 @@
-//! Tests of the network, the run and its steps: rooms under pulls, steps that are refused or cut, and sweeps over instants. Worked
-//! traces and steps stand in tests/cases: traces.txt and steps.txt.
+//! Tests of the network and of steps: rooms event by event, steps that are refused or cut, and sweeps over instants. Worked runs and
+//! steps stand in tests/cases: traces.txt, pulls.txt and steps.txt.
 #![tactic(auto)]
 
 #[cfg(test)]
@@ -10,8 +10,6 @@ mod named;
 mod network_edges;
 #[cfg(test)]
 mod networks;
-#[cfg(test)]
-mod pulls;
 #[cfg(test)]
 mod rooms;
 #[cfg(test)]
