@@ -1,7 +1,5 @@
-//! Tests of frames in hex: spellings of other tools, what is refused, and the words of remarks.
+//! Tests of frames in hex as sentences, into writers that fail.
 #![tactic(auto)]
 
 #[cfg(test)]
-mod cases;
-#[cfg(test)]
-mod rows;
+mod writers;
