@@ -148,10 +148,13 @@ def filled(case, line, row):
 def rows_of(case, above):
     """The lines of rows of a case, which are those of the case above where it has none of its own."""
     for table in case.sections:
-        if table.name == "rows":
-            return above if table.words == "above" else [row for row in table.text if row[1]]
-        if table.name == "each":
-            return [(line, word) for line, words in table.text for word in words.split()]
+        if table.name in ("rows", "each"):
+            rows = [row for row in table.text if row[1]]
+            if table.name == "each":
+                rows = [(line, word) for line, words in rows for word in words.split()]
+            if not rows and not (above and table.words == "above"):
+                raise Fault("%s:%d: `%s` has no rows" % (case.file, case.line, case.name))
+            return rows or above
     return []
 
 
@@ -233,7 +236,7 @@ def parts_of(words):
 
 
 # How the text of a section is read, and how it is compared with what is written.
-READ = {"hex": bytes_of, "digits": lambda text: bytes_of(text).hex().encode() + b"\n", "slots": edges_of, "pulls": pulls_of}
+FORMS = {"hex": bytes_of, "digits": lambda text: bytes_of(text).hex().encode() + b"\n", "slots": edges_of, "pulls": pulls_of}
 FITS = {
     "has": lambda text, written: text in written,
     "begins": lambda text, written: written.startswith(text),
@@ -278,7 +281,7 @@ class Run:
         text = whole(section.text)
         if how == "with":
             text = text.replace(*fields_of(rest), 1)
-        data = next((READ[it](text) for it in words if it in READ), text.encode())
+        data = next((FORMS[it](text) for it in words if it in FORMS), text.encode())
         if how == "of":
             data = self.written(rest, data or self.input)
         return data.removesuffix(b"\n") if "bare" in words else data
@@ -331,10 +334,13 @@ class Run:
         with subprocess.Popen(words, stdin=subprocess.PIPE, stdout=subprocess.PIPE, stderr=subprocess.PIPE, cwd=self.folder) as live:
             timer = threading.Timer(LIMIT, live.kill)
             timer.start()
-            for sent, answers in turns:
-                live.stdin.write(sent.encode())
-                live.stdin.flush()
-                said.append("> " + sent + "".join(live.stdout.readline().decode() for _ in answers.splitlines()))
+            try:
+                for sent, answers in turns:
+                    live.stdin.write(sent.encode())
+                    live.stdin.flush()
+                    said.append("> " + sent + "".join(live.stdout.readline().decode() for _ in answers.splitlines()))
+            except BrokenPipeError:
+                said.append("it reads no more\n")
             rest, err = live.communicate()
             timer.cancel()
         if "".join(said) + rest.decode() != text:
