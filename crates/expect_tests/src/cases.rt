@@ -1,9 +1,6 @@
-//! Each row through the public calls.
-use crate::rows::{
-    BELOW, BELOW_REPORT, COUNTS, COUNTS_REPORT, CUTS, FAULTS, LABELS, LABELS_REPORT, PATTERNS,
-    PLAIN, PULSES, PULSES_REPORT, REFUSALS, REMARKS, REMARKS_REPORT, REPORT, SCRIPT, STATES,
-    STATES_REPORT, TOPOLOGY, WINDOWS, WINDOWS_REPORT,
-};
+//! Each row through the public calls. Reports of scripts without names stand in tests/cases/reports.txt.
+use crate::names::{SCRIPT, TOPOLOGY as ROOM};
+use crate::rows::{CUTS, FAULTS, PATTERNS, PLAIN, REFUSALS, TOPOLOGY};
 use expect_run::{CheckError, Tally, check, verdicts};
 use expect_text::{cut_script, first_fault, fits, plain_script};
 use std::io::{self, ErrorKind, Write};
@@ -108,62 +105,6 @@ fn reported(rt: &(impl Abort + AllocGlobal), tally: Tally) -> String {
     format!(in rt.alloc(); "{failed} of {count}").expect(rt, "a tally")
 }
 
-#[test]
-fn expectations_are_reported(rt: HostRuntime) {
-    let (text, counts) = report_of(&rt, TOPOLOGY, SCRIPT);
-    holds(&rt, counts.as_str() == "6 of 10", "counts");
-    holds(&rt, text.as_str() == REPORT, "report");
-}
-
-#[test]
-fn refusals_below_events_are_reported(rt: HostRuntime) {
-    let (text, counts) = report_of(&rt, TOPOLOGY, BELOW);
-    holds(&rt, counts.as_str() == "2 of 3", "counts");
-    holds(&rt, text.as_str() == BELOW_REPORT, "report");
-}
-
-#[test]
-fn rounds_outside_a_window_do_not_count(rt: HostRuntime) {
-    let (text, counts) = report_of(&rt, TOPOLOGY, WINDOWS);
-    holds(&rt, counts.as_str() == "1 of 4", "counts");
-    holds(&rt, text.as_str() == WINDOWS_REPORT, "report");
-}
-
-#[test]
-fn rounds_are_counted(rt: HostRuntime) {
-    let (text, counts) = report_of(&rt, TOPOLOGY, COUNTS);
-    holds(&rt, counts.as_str() == "5 of 12", "counts");
-    holds(&rt, text.as_str() == COUNTS_REPORT, "report");
-}
-
-#[test]
-fn remarks_of_the_run_s_line_are_reported(rt: HostRuntime) {
-    let (text, counts) = report_of(&rt, TOPOLOGY, REMARKS);
-    holds(&rt, counts.as_str() == "4 of 6", "counts");
-    holds(&rt, text.as_str() == REMARKS_REPORT, "report");
-}
-
-#[test]
-fn windows_hang_from_what_comes(rt: HostRuntime) {
-    let (text, counts) = report_of(&rt, TOPOLOGY, LABELS);
-    holds(&rt, counts.as_str() == "1 of 6", "counts");
-    holds(&rt, text.as_str() == LABELS_REPORT, "report");
-}
-
-#[test]
-fn windows_hang_from_pulses(rt: HostRuntime) {
-    let (text, counts) = report_of(&rt, TOPOLOGY, PULSES);
-    holds(&rt, counts.as_str() == "1 of 5", "counts");
-    holds(&rt, text.as_str() == PULSES_REPORT, "report");
-}
-
-#[test]
-fn states_are_reported(rt: HostRuntime) {
-    let (text, counts) = report_of(&rt, TOPOLOGY, STATES);
-    holds(&rt, counts.as_str() == "5 of 15", "counts");
-    holds(&rt, text.as_str() == STATES_REPORT, "report");
-}
-
 /// `o` for each test that holds, `x` for each that fails, or why there are none.
 fn verdicts_of(rt: &(impl Abort + AllocGlobal), topology: &str, script: &str) -> String {
     match verdicts(rt.alloc(), topology.as_bytes(), script.as_bytes()) {
@@ -183,8 +124,8 @@ fn marks(rt: &(impl Abort + AllocGlobal), verdicts: &[bool]) -> String {
 
 #[test]
 fn verdicts_are_those_of_the_report(rt: HostRuntime) {
-    let marks = verdicts_of(&rt, TOPOLOGY, SCRIPT);
-    holds(&rt, marks.as_str() == "oooxxoxxxx", "verdicts");
+    let marks = verdicts_of(&rt, ROOM, SCRIPT);
+    holds(&rt, marks.as_str() == "ooxoooxoo", "verdicts");
     for line in REFUSALS.lines() {
         let (input, want) = line.rsplit_once(" => ").expect(&rt, line);
         let (topology, script) = input.split_once('|').expect(&rt, line);

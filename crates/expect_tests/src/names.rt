@@ -76,7 +76,7 @@ fn names_are_found(rt: HostRuntime) {
 }
 
 /// A box with two addresses beside a player: examples/recorder-and-player.net has its rounds with their times.
-const TOPOLOGY: &str = "\
+pub(crate) const TOPOLOGY: &str = "\
 device tv tv 2
 device p player 0
 device box combo 0
@@ -84,7 +84,7 @@ plug p tv 1
 plug box tv 2
 ";
 
-const SCRIPT: &str = "\
+pub(crate) const SCRIPT: &str = "\
 expect once from 0 to 400000 @p>f report-physical-address 1.0.0.0 playback ok
 expect none from 0 to 100000 @p>* nack
 expect from 0 to 40000 @tv>0 nack
