@@ -73,12 +73,16 @@ fn whole(rt: HostRuntime) {
     assert!(&rt; audited.is_ok() && out.as_slice() == WHOLE.as_bytes());
 }
 
-/// Frames that are legal are read alike by wider windows.
+/// Frames that are legal are read alike by wider windows, and one that broke is given up later: 3,051 after its last fall, and not
+/// 2,751.
 #[test]
 fn wider_windows(rt: HostRuntime) {
     let options = AuditOptions { timing: true };
     let mut out = Vec::new(rt.alloc());
     let windows = Windows::wider(300);
     let audited = audit_capture_by(&polls(&rt), windows, options, &mut Writes::new(&mut out));
-    assert!(&rt; audited.is_ok() && out.as_slice() == WHOLE.as_bytes());
+    let want = WHOLE
+        .replace(rt.alloc(), "224051", "224351")
+        .expect(&rt, "a text");
+    assert!(&rt; audited.is_ok() && out.as_slice() == want.as_bytes());
 }
