@@ -209,7 +209,8 @@ def random_capture(form, number):
     return text + ['%d end\n' % (edges[-1][0] + r.randrange(0, 20000))]
 
 
-ASKED = [('--from-start',), ('--audit',), ('--timing',), ('--from-start', '--json'), ('--audit', '--json'), ('--audit', '--strict'), ('--timing', '--json', '--strict')]
+ASKED = [('--from-start',), ('--audit',), ('--timing',), ('--from-start', '--json'), ('--audit', '--json'), ('--audit', '--strict'), ('--timing', '--json', '--strict'), ('--from-start', '--invert'), ('--from-start', '--glitch', '60'),
+         ('--audit', '--glitch', '60'), ('--audit', '--invert', '--glitch', '300')]
 
 
 def is_text_of_the_whole():

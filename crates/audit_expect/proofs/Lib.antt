@@ -2,3 +2,4 @@ pub mod First
 pub mod Unasked
 pub mod Stateless
 pub mod Alike
+pub mod HeardReadings

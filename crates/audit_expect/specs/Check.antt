@@ -7,7 +7,7 @@ use Rattle.expect_remarks.specs.Kept.{audit_remarks}
 use Rattle.expect_run.specs.Report.{Report, report_with_plan, tests}
 use Rattle.expect_run.specs.declared.checking.Tally.{Tally}
 use Rattle.audit_expect.specs.Faults.{first_fault}
-use Rattle.audit_expect.specs.Marks.{capture_trace, no_states}
+use Rattle.audit_expect.specs.Marks.{capture_told, no_states}
 use Rattle.audit_expect.specs.Wanted.{plain_text, with_wanted_lines}
 use Rattle.text_core.specs.Lines.{lines_of}
 use Rattle.audit_expect.specs.declared.checking.CaptureCheckError.{CaptureCheckError}
@@ -15,7 +15,7 @@ use Rattle.audit_expect.specs.declared.checking.CaptureCheckError.TheVariants.{E
 
 -- the tests of expectations of readings, by what is judged of a capture
 abbrev pub reading_tests : List ℕ → Captured → Report
-reading_tests text capture = tests text (capture_trace text capture) (no_states text)
+reading_tests text capture = tests text (capture_told text capture) (no_states text)
 
 -- the report of expectations: after those of readings stand those of the remarks of the capture's audit
 abbrev pub capture_report : List ℕ → Captured → Report

@@ -1,31 +1,34 @@
--- What is judged of a capture (own): a line for each instant with a name, as the trace of a run has it of an event, and the lines of
--- the readings.
-use Rattle.std.specs.Prelude.{ℕ, ◌+◌, codes, map, List, [], ◌∷◌, ◌++◌, Option, Some, None}
-use Rattle.std.specs.Fmt.{decimal}
-use Rattle.std.specs.List.{concat}
+-- What is judged of a capture (own): an event for each instant with a name, and a round for each reading.
+use Rattle.std.specs.Prelude.{ℕ, ◌+◌, map, List, [], ◌∷◌, ◌++◌, Option, Some, None}
+use Rattle.std.specs.List.{flat_map}
 use Rattle.text_core.specs.Lines.{lines_of}
+use Rattle.line_reading.specs.Readings.{Listed}
 use Rattle.capture_core.specs.Edges.{Captured}
-use Rattle.capture_monitor.specs.Watch.{as_file, file_readings, readings_text}
+use Rattle.capture_monitor.specs.Watch.{as_file, file_readings, reading_as}
+use Rattle.expect_judge.specs.Told.{EventLine, RoundLine, Told}
+use Rattle.expect_told.specs.Said.{reading_told}
 use Rattle.audit_expect.specs.Lines.{instant_of}
 
--- `T event N ok`
-abbrev pub mark_line : ℕ → ℕ → List ℕ
-mark_line number at = concat (decimal at ∷ codes " event " ∷ decimal number ∷ codes " ok\n" ∷ [])
-
-abbrev pub mark_of : ℕ → Option ℕ → List ℕ
+abbrev pub mark_of : ℕ → Option ℕ → List EventLine
 mark_of number None = []
-mark_of number (Some at) = mark_line number at
+mark_of number (Some at) = record { at = at; line = number; refused = None } ∷ []
 
 -- those of these lines, of which the first has this number
-abbrev pub marks_from : ℕ → List (List ℕ) → List ℕ
+abbrev pub marks_from : ℕ → List (List ℕ) → List EventLine
 marks_from number [] = []
 marks_from number (line ∷ lines) = mark_of number (instant_of line) ++ marks_from (number + 1) lines
 
-abbrev pub marks : List ℕ → List ℕ
+abbrev pub marks : List ℕ → List EventLine
 marks text = marks_from 1 (lines_of text)
 
-abbrev pub capture_trace : List ℕ → Captured → List ℕ
-capture_trace text capture = marks text ++ readings_text (file_readings (as_file capture))
+abbrev pub listed_told : Listed → RoundLine
+listed_told x = reading_told (reading_as x)
+
+abbrev pub rounds_told : Captured → List RoundLine
+rounds_told capture = map listed_told (file_readings (as_file capture))
+
+abbrev pub capture_told : List ℕ → Captured → Told
+capture_told text capture = record { rounds = rounds_told capture; events = marks text }
 
 -- no line speaks of a state
 abbrev pub no_states : List ℕ → List (List ℕ)

@@ -1,21 +1,20 @@
 //! From expectations and a capture to their report.
 ghost use Rattle.std.specs.Prelude.{◌≡◌, ◌↔◌, false, IfOk, IfErr, IsTrue};
-ghost use Rattle.text_core.specs.Held.{held_bytes};
 ghost use Rattle.audit_expect.specs.Check.{IsCaptureChecked, IsCaptureCut, IsCaptureReported, capture_report, is_write, reading_tests};
-ghost use Rattle.audit_expect.specs.Marks.{capture_trace};
 ghost use Rattle.audit_expect.specs.Wanted.{plain_text};
 ghost use Rattle.expect_run.specs.Report.{report_as};
 
 use crate::faults::first_fault;
-use crate::marks::append_marks;
+use crate::marks::marks;
+use crate::readings::rounds_told;
 use crate::remarks::add_wanted;
 use crate::wanted::plain_text;
-use audit_core::watch_capture;
 use capture_core::Capture;
+use expect_judge::{Told, rounds_kept};
 use expect_run::{ReportDraft, Tally, add_plan, open_report, tally_of};
 use expect_text::ExpectCause;
 use std::alloc::{AllocError, Global};
-use text_core::{At, Held, Sink, put_all};
+use text_core::{At, Sink, put_all};
 use thiserror::Error;
 
 /// Why there is no report of a capture, or not all of it.
@@ -31,20 +30,7 @@ pub enum CaptureCheckError {
     Memory,
 }
 
-// What is judged of a capture.
-fn capture_trace(alloc: Global, expectations: &[u8], capture: &Capture) -> Result<Held, AllocError>
-    ensures { IfOk result (λ held. held_bytes held ≡ capture_trace expectations.now capture.now) }
-{
-    let mut held = Held::new(alloc);
-    append_marks(&mut held, expectations)?;
-    match watch_capture(capture, &mut held) {
-        Ok(()) => Ok(held),
-        Err(_) => Err(AllocError),
-    }
-}
-
 // The tests of expectations of readings.
-#[tactic(auto, using(crate::proofs::Stateless::stateless))]
 fn reading_tests(
     alloc: Global,
     expectations: &[u8],
@@ -52,8 +38,14 @@ fn reading_tests(
 ) -> Result<ReportDraft, AllocError>
     ensures { IfOk result (λ draft. report_as draft ≡ reading_tests expectations.now capture.now) }
 {
-    let held = capture_trace(alloc, expectations, capture)?;
-    open_report(alloc, expectations, held.bytes(), &[])
+    let kept = rounds_told(alloc, capture)?;
+    let rounds = rounds_kept(alloc, &kept)?;
+    let events = marks(alloc, expectations)?;
+    let told = Told {
+        rounds: &rounds,
+        events: &events,
+    };
+    open_report(alloc, expectations, &told, &[])
 }
 
 // The report; `plain` are the expectations of readings.
@@ -74,7 +66,7 @@ fn report_of(
 
 /// Writes the report of whether the readings of a capture are as the expectations have it, as `check` writes that of a run. The
 /// lines of the expectations are those of a script, with `label NAME at T` in place of events: it names an instant. After them stand
-/// the tests of the remarks of its audit, `expect no-remark` and `expect remark PATTERN`. The report, the lines of the readings and,
+/// the tests of the remarks of its audit, `expect no-remark` and `expect remark PATTERN`. The report, what the readings say and,
 /// where they are spoken of, the remarks are held in memory.
 ///
 /// # Errors

@@ -5,6 +5,7 @@ mod checking;
 mod faults;
 mod laws;
 mod marks;
+mod readings;
 mod remarks;
 mod wanted;
 

@@ -1,43 +1,50 @@
-//! What is judged of a capture.
-ghost use Rattle.std.specs.Prelude.{◌≡◌, ◌++◌, OnOk};
-ghost use Rattle.text_core.specs.Held.{held_bytes};
+//! The instants with a name of expectations of a capture.
+ghost use Rattle.std.specs.Prelude.{◌≡◌, ◌++◌, map, IfOk, OnOk};
+ghost use Rattle.expect_judge.specs.Told.{event_as};
 ghost use Rattle.audit_expect.specs.Marks.{mark_of, marks};
 
 use crate::faults::instant_of;
-use std::alloc::AllocError;
-use text_core::{Held, Piece, first_line, write_pieces};
+use expect_judge::EventLine;
+use std::alloc::{AllocError, Global};
+use text_core::first_line;
 
-// Appends the line of an instant, where there is one.
-fn append_mark(out: &mut Held, number: u64, instant: Option<u64>) -> Result<(), AllocError>
-    ensures { OnOk result (held_bytes out.new ≡ held_bytes out.old ++ mark_of number instant) }
+// Adds an event, where there is an instant.
+fn push_mark(
+    events: &mut Vec<EventLine<'_>>,
+    number: u64,
+    instant: Option<u64>,
+) -> Result<(), AllocError>
+    ensures { OnOk result (map event_as events.new.items ≡ map event_as events.old.items ++ mark_of number instant) }
 {
     let Some(at) = instant else {
         return Ok(());
     };
-    match write_pieces(
-        out,
-        &[
-            Piece::Decimal(at),
-            Piece::Text(" event "),
-            Piece::Decimal(number),
-            Piece::Text(" ok\n"),
-        ],
-    ) {
-        Ok(_) => Ok(()),
-        Err(_) => Err(AllocError),
-    }
+    events.push(EventLine {
+        at,
+        line: number,
+        refused: None,
+    })?;
+    Ok(())
 }
 
-/// Appends a line for each instant with a name.
-pub(crate) fn append_marks(out: &mut Held, expectations: &[u8]) -> Result<(), AllocError>
-    ensures { OnOk result (held_bytes out.new ≡ held_bytes out.old ++ marks expectations.now) }
+/// An event for each instant with a name.
+///
+/// # Errors
+///
+/// Want of memory.
+pub(crate) fn marks<'a>(
+    alloc: Global,
+    expectations: &'a [u8],
+) -> Result<Vec<EventLine<'a>>, AllocError>
+    ensures { IfOk result (λ events. map event_as events.items ≡ marks expectations.now) }
 {
+    let mut events = Vec::new(alloc);
     let mut rest = expectations;
     let mut number = 1u64;
     'lines: while let Some((line, after)) = first_line(rest) {
-        append_mark(out, number, instant_of(line))?;
+        push_mark(&mut events, number, instant_of(line))?;
         rest = after;
         number += 1;
     }
-    Ok(())
+    Ok(events)
 }

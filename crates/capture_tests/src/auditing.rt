@@ -2,6 +2,7 @@
 //! of a capture").
 use crate::following::{Driver, Told, form_of, spelled, with_end};
 use follow_audit::{AuditView, FollowAuditError, follow_audit};
+use follow_core::Reception;
 use line_reading::Windows;
 use record_core::Form;
 use std::cell::RefCell;
@@ -75,7 +76,11 @@ fn said_of(
         rt.alloc(),
         form_of(form),
         signal.as_bytes(),
-        Windows::wider(margin.min(300)),
+        Reception {
+            windows: Windows::wider(margin.min(300)),
+            inverted: false,
+            glitch: 0,
+        },
         AuditView {
             timing: view == "timing",
             written: if view == "json" {

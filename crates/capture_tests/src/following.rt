@@ -1,5 +1,5 @@
 //! Captures that are followed, over a reader that gives one line at each read and a writer that notes when it was written to.
-use follow_core::{FollowError, LineForm, follow};
+use follow_core::{FollowError, LineForm, Reception, follow};
 use line_reading::Windows;
 use record_core::Form;
 use std::cell::RefCell;
@@ -182,7 +182,11 @@ fn said_of(
         form,
         signal,
         Form::Text,
-        Windows::wider(margin.min(300)),
+        Reception {
+            windows: Windows::wider(margin.min(300)),
+            inverted: false,
+            glitch: 0,
+        },
         &mut driver,
         &mut out,
     );

@@ -530,7 +530,7 @@ pub const MON_VALUES: &[(&str, &str, &str)] = &[
 pub const MON_RULES: &str = "
   --signal goes with vcd and csv alone; of --from-start and --from-idle one is given at most, and neither
   with --audit and --timing; --strict goes with one of these two
-  --follow goes with --from edges, pin or csv, and not with --invert, --glitch, --fold and --from-idle
+  --follow goes with --from edges, pin or csv, and not with --fold and --from-idle
   --edges goes with --from, --signal, --invert and --glitch alone
 ";
 

@@ -106,10 +106,6 @@ line_form (Some Pin) = Some line_forms.Pin
 line_form (Some Csv) = Some line_forms.Csv
 line_form form = None
 
--- something else than what is read of the edges as they are, a line each
-abbrev pub goes_further : MonFlags → Bool
-goes_further flags = is_some flags.glitch || flags.inverted || flags.folded
-
 -- what is written of a capture as it comes: its readings where no flag says it
 abbrev pub follow_report : Option CaptureReport → Option FollowReport
 follow_report None = Some follow_reports.Readings
@@ -119,11 +115,11 @@ follow_report (Some (Audit timing strict)) = Some (follow_reports.Audit timing s
 
 -- how it is followed, and what is reported of it
 abbrev pub followed_as : MonFlags → LineForm → FollowReport → CommandChoice
-followed_as flags form report = Follow (record { form = form; margin = unwrap_or flags.margin 0; report = report; written = form_by flags.json })
+followed_as flags form report = Follow (record { form = form; glitch = unwrap_or flags.glitch 0; inverted = flags.inverted; margin = unwrap_or flags.margin 0; report = report; written = form_by flags.json })
 
 abbrev pub follow_choice : MonFlags → Option CommandChoice
 follow_choice flags =
-    if goes_further flags then None
+    if flags.folded then None
     else option_and_then (λ form. option_and_then (λ report. option_map (followed_as flags form) (follow_report report)) (mon_report flags.start (flags.audit || flags.timing) flags.timing flags.strict)) (line_form flags.form)
 
 -- something of readings, or of them as they come

@@ -183,6 +183,10 @@ pub struct MonChoice {
 #[derive(Clone, Copy, Debug)]
 pub struct FollowChoice {
     pub form: LineForm,
+    /// Pulses and gaps shorter than so many microseconds are passed over.
+    pub glitch: u64,
+    /// Whether its levels are read the other way round.
+    pub inverted: bool,
     /// The windows are so many microseconds wider, 300 at most.
     pub margin: u64,
     pub report: FollowReport,

@@ -1,6 +1,6 @@
 //! The flags of `mon`.
 ghost use Rattle.std.specs.Prelude.{◌≡◌, map, string_bytes, Some, None, MatchOption, option_and_then};
-ghost use Rattle.cli_words.specs.MonFlags.{asks_of_readings, follow_choice, form_of, follow_report, goes_further, has_names, line_choice, line_form, margin_of, is_misfit, joined_signal, mon_asked, mon_flags, mon_report, signal_in, waited_mon, with_mon_flag, with_mon_value, with_mon_word};
+ghost use Rattle.cli_words.specs.MonFlags.{asks_of_readings, follow_choice, form_of, follow_report, has_names, line_choice, line_form, margin_of, is_misfit, joined_signal, mon_asked, mon_flags, mon_report, signal_in, waited_mon, with_mon_flag, with_mon_value, with_mon_word};
 
 use crate::choice::{Asked, CaptureReport, CommandChoice, FollowChoice, FollowReport, MonChoice};
 use crate::form::form_by;
@@ -268,13 +268,6 @@ fn line_form(form: Option<CaptureForm>) -> Option<LineForm>
     }
 }
 
-// Whether a flag asks for something else than what is read of the edges as they are, a line each.
-fn goes_further(flags: &MonFlags) -> bool
-    ensures { result ≡ goes_further flags.now }
-{
-    flags.glitch.is_some() || flags.inverted || flags.folded
-}
-
 // What is written of a capture as it comes: its readings where no flag says it.
 fn follow_report(report: Option<CaptureReport>) -> Option<FollowReport>
     ensures { result ≡ follow_report report }
@@ -293,7 +286,7 @@ fn follow_report(report: Option<CaptureReport>) -> Option<FollowReport>
 fn follow_choice(flags: &MonFlags) -> Option<CommandChoice>
     ensures { result ≡ follow_choice flags.now }
 {
-    if goes_further(flags) {
+    if flags.folded {
         return None;
     }
     let form = line_form(flags.form)?;
@@ -302,6 +295,8 @@ fn follow_choice(flags: &MonFlags) -> Option<CommandChoice>
     let report = follow_report(report)?;
     Some(CommandChoice::Follow(FollowChoice {
         form,
+        glitch: flags.glitch.unwrap_or(0),
+        inverted: flags.inverted,
         margin: flags.margin.unwrap_or(0),
         report,
         written: form_by(flags.json),

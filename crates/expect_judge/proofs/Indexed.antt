@@ -1,56 +1,31 @@
--- What is read of a trace at once is what is read of it line by line.
+-- The events at hand are those that are found one by one.
 use Rattle.std.proofs.Common.{◌≡◌, ℕ, ◌==◌, Bool, true, false, cond, if◌then◌else◌, List, [], ◌∷◌, option_map, is_some, Option, Some, None, nat_eq, refl, sym, ap, ◌∙◌, subst, arith}
 use Rattle.std.specs.HashMap.{HashMap, Updates, get}
-use Rattle.std.specs.List.{cons_option, filter_map, find}
 use Rattle.std.proofs.lemmas.Bool.{false≢true}
 use Rattle.std.proofs.lemmas.Bool.Decides.{nat_tests}
-use Rattle.text_core.specs.Lines.{lines_of}
-use Rattle.text_core.specs.Words.{words_of}
-use Rattle.expect_judge.specs.Told.{EventLine, RoundLine, event_as, round_in, rounds_of}
-use Rattle.expect_judge.specs.Seen.{end_by, ends_seen}
+use Rattle.expect_judge.specs.Told.{EventLine, event_as, event_at}
 use Rattle.expect_judge.specs.Named.{is_named}
-use Rattle.expect_judge.specs.Index.{ends_among, entry, event_of, event_on, or_event}
-use Rattle.expect_judge.specs.declared.seen.TimeSpan.{TimeSpan}
-use Rattle.expect_judge.specs.declared.reported.EventLine.{EventLine as EventRead}
+use Rattle.expect_judge.specs.Index.{entry, event_on, or_event}
+use Rattle.expect_judge.specs.declared.lines.EventLine.{EventLine as EventRead}
 
--- ---- rounds
-
-after_none : {X Y Z : Type 0} (g : X → Option Y) (f : Option Y → Option Z) → f None ≡ None → (xs : List X)
-    → filter_map (λ x. f (g x)) xs ≡ filter_map (λ y. f (Some y)) (filter_map g xs)
-after_none {X} {Y} g f none [] = refl
-after_none {X} {Y} g f none (x ∷ xs) = by (g x) (after_none g f none xs)
+-- one event more
+pub one_more : (number : ℕ) (before : Option EventLine) (e : EventLine) (events : List EventLine)
+    → or_event (or_event before (event_on number e)) (event_at events number) ≡ or_event before (event_at (e ∷ events) number)
+one_more number (Some first) e events = refl
+one_more number None e events = by (e.line == number)
   where
-    by : (o : Option Y) → filter_map (λ x. f (g x)) xs ≡ filter_map (λ y. f (Some y)) (filter_map g xs)
-        → cons_option (f o) (filter_map (λ x. f (g x)) xs) ≡ filter_map (λ y. f (Some y)) (cons_option o (filter_map g xs))
-    by None more = ap (λ o. cons_option o (filter_map (λ x. f (g x)) xs)) none ∙ more
-    by (Some y) more = ap (cons_option (f (Some y))) more
-
-pub same_ends : (trace pattern : List ℕ) (span : TimeSpan) (rounds : List RoundLine) → rounds ≡ rounds_of trace → ends_among rounds span pattern ≡ ends_seen trace span pattern
-same_ends trace pattern span rounds is =
-    ap (filter_map (λ r. end_by span pattern (Some r))) is ∙ sym (after_none (λ line. round_in (words_of line)) (end_by span pattern) refl (lines_of trace))
-
--- ---- events
-
--- one line more, with an event or without
-pub one_more : (number : ℕ) (before o : Option EventLine) (events : List EventLine)
-    → or_event (or_event before (event_of number o)) (find (λ x. x.line == number) events) ≡ or_event before (find (λ x. x.line == number) (cons_option o events))
-one_more number None None events = refl
-one_more number (Some first) None events = refl
-one_more number (Some first) (Some e) events = refl
-one_more number None (Some e) events = by (e.line == number)
-  where
-    by : (b : Bool) → or_event (if b then Some e else None) (find (λ x. x.line == number) events) ≡ cond b (Some e) (find (λ x. x.line == number) events)
+    by : (b : Bool) → or_event (if b then Some e else None) (event_at events number) ≡ cond b (Some e) (event_at events number)
     by true = refl
     by false = refl
 
-pub no_more : (number : ℕ) (before : Option EventLine) (events : List EventLine) → events ≡ [] → or_event before (find (λ x. x.line == number) events) ≡ before
-no_more number None events none = ap (find (λ (x : EventLine). x.line == number)) none
+pub no_more : (number : ℕ) (before : Option EventLine) (events : List EventLine) → events ≡ [] → or_event before (event_at events number) ≡ before
+no_more number None events none = ap (λ (es : List EventLine). event_at es number) none
 no_more number (Some first) events none = refl
 
 same : (a b : ℕ) → (a == b) ≡ true → a ≡ b
 same a b h = grind (arith, nat_tests)
 
-pub unless : (o : Option EventLine) → o ≡ or_event o None
+unless : (o : Option EventLine) → o ≡ or_event o None
 unless None = refl
 unless (Some x) = refl
 

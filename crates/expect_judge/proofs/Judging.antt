@@ -5,6 +5,7 @@ use Rattle.std.specs.Map.{lookup}
 use Rattle.std.proofs.lemmas.List.{map-append}
 use denote.Ref.{Bor}
 use Rattle.std.proofs.Math.Path.{fun_ext}
+use Rattle.expect_judge.specs.Told.{Told}
 use Rattle.expect_judge.specs.Judged.{JudgedLine, finding_as, findings_from, first_state, is_of_state, later_states, line_judged, lines_judged, noted, or_more, states_for}
 use Rattle.expect_judge.specs.declared.judge.Judged.{Judged}
 use Rattle.expect_judge.specs.declared.judge.JudgedLine.{JudgedLine as FindingRead}
@@ -29,33 +30,33 @@ one_found old new number state j holds some made =
     ∙ ap (λ (o : Option Bool). map finding_as old ++ or_more number state.now j o []) (sym some)
 
 -- what is found of the lines that are left
-abbrev pub findings_left : List ℕ → List ℕ → (ℕ → Option ℕ) → ℕ → List (List ℕ) → List (List ℕ) → List JudgedLine
-findings_left script trace at number lines states = findings_from number (states_for lines states) (lines_judged script trace at number lines (states_for lines states))
+abbrev pub findings_left : List ℕ → Told → (ℕ → Option ℕ) → ℕ → List (List ℕ) → List (List ℕ) → List JudgedLine
+findings_left script told at number lines states = findings_from number (states_for lines states) (lines_judged script told at number lines (states_for lines states))
 
 more_after : (number : ℕ) (state : List ℕ) (j : Judged) (o : Option Bool) (more : List JudgedLine) → or_more number state j o [] ++ more ≡ or_more number state j o more
 more_after number state j None more = refl
 more_after number state j (Some holds) more = refl
 
 -- one line more
-pub one_more : (script trace line : List ℕ) (lines rest left later : List (List ℕ)) (at new : ℕ → Option ℕ) (number : ℕ) (state : List ℕ) (j : Judged) (before after goal : List JudgedLine) (of_state : Bool)
-    → lines ≡ line ∷ rest → of_state ≡ is_of_state line → state ≡ first_state of_state left → later ≡ later_states of_state left → j ≡ line_judged script trace state at number line
+pub one_more : (script : List ℕ) (told : Told) (line : List ℕ) (lines rest left later : List (List ℕ)) (at new : ℕ → Option ℕ) (number : ℕ) (state : List ℕ) (j : Judged) (before after goal : List JudgedLine) (of_state : Bool)
+    → lines ≡ line ∷ rest → of_state ≡ is_of_state line → state ≡ first_state of_state left → later ≡ later_states of_state left → j ≡ line_judged script told state at number line
     → ((k : ℕ) → new k ≡ noted at number j.at k) → after ≡ before ++ or_more number state j j.holds []
-    → before ++ findings_left script trace at number lines left ≡ goal → after ++ findings_left script trace new (number + 1) rest later ≡ goal
-one_more script trace line lines rest left later at new number state j before after goal of_state split speaks own others judged instants made is =
+    → before ++ findings_left script told at number lines left ≡ goal → after ++ findings_left script told new (number + 1) rest later ≡ goal
+one_more script told line lines rest left later at new number state j before after goal of_state split speaks own others judged instants made is =
     let s = first_state (is_of_state line) left in
     let l = later_states (is_of_state line) left in
-    let end : or_more number state j j.holds (findings_left script trace new (number + 1) rest later) ≡ findings_left script trace at number (line ∷ rest) left =
-    ap (λ (f : ℕ → Option ℕ). or_more number state j j.holds (findings_left script trace f (number + 1) rest later)) (fun_ext instants)
-    ∙ ap (λ (ls : List (List ℕ)). or_more number state j j.holds (findings_left script trace (noted at number j.at) (number + 1) rest ls)) (others ∙ ap (λ b. later_states b left) speaks)
-    ∙ ap (λ (k : Judged). or_more number state k k.holds (findings_left script trace (noted at number k.at) (number + 1) rest l)) judged
-    ∙ ap (λ (t : List ℕ). or_more number t (line_judged script trace t at number line) (line_judged script trace t at number line).holds
-    (findings_left script trace (noted at number (line_judged script trace t at number line).at) (number + 1) rest l)) (own ∙ ap (λ b. first_state b left) speaks) in
-    ap (λ (fs : List JudgedLine). fs ++ findings_left script trace new (number + 1) rest later) made
-    ∙ append_assoc before (or_more number state j j.holds []) (findings_left script trace new (number + 1) rest later)
-    ∙ ap (λ (fs : List JudgedLine). before ++ fs) (more_after number state j j.holds (findings_left script trace new (number + 1) rest later) ∙ end ∙ ap (λ (ls : List (List ℕ)). findings_left script trace at number ls left) (sym split))
+    let end : or_more number state j j.holds (findings_left script told new (number + 1) rest later) ≡ findings_left script told at number (line ∷ rest) left =
+    ap (λ (f : ℕ → Option ℕ). or_more number state j j.holds (findings_left script told f (number + 1) rest later)) (fun_ext instants)
+    ∙ ap (λ (ls : List (List ℕ)). or_more number state j j.holds (findings_left script told (noted at number j.at) (number + 1) rest ls)) (others ∙ ap (λ b. later_states b left) speaks)
+    ∙ ap (λ (k : Judged). or_more number state k k.holds (findings_left script told (noted at number k.at) (number + 1) rest l)) judged
+    ∙ ap (λ (t : List ℕ). or_more number t (line_judged script told t at number line) (line_judged script told t at number line).holds
+    (findings_left script told (noted at number (line_judged script told t at number line).at) (number + 1) rest l)) (own ∙ ap (λ b. first_state b left) speaks) in
+    ap (λ (fs : List JudgedLine). fs ++ findings_left script told new (number + 1) rest later) made
+    ∙ append_assoc before (or_more number state j j.holds []) (findings_left script told new (number + 1) rest later)
+    ∙ ap (λ (fs : List JudgedLine). before ++ fs) (more_after number state j j.holds (findings_left script told new (number + 1) rest later) ∙ end ∙ ap (λ (ls : List (List ℕ)). findings_left script told at number ls left) (sym split))
     ∙ is
 
-pub no_more : (script trace : List ℕ) (at : ℕ → Option ℕ) (number : ℕ) (lines left : List (List ℕ)) (before goal : List JudgedLine) → lines ≡ []
-    → before ++ findings_left script trace at number lines left ≡ goal → before ≡ goal
-no_more script trace at number lines left before goal none is =
-    sym (ap (λ (ls : List (List ℕ)). before ++ findings_left script trace at number ls left) none ∙ append-nil before) ∙ is
+pub no_more : (script : List ℕ) (told : Told) (at : ℕ → Option ℕ) (number : ℕ) (lines left : List (List ℕ)) (before goal : List JudgedLine) → lines ≡ []
+    → before ++ findings_left script told at number lines left ≡ goal → before ≡ goal
+no_more script told at number lines left before goal none is =
+    sym (ap (λ (ls : List (List ℕ)). before ++ findings_left script told at number ls left) none ∙ append-nil before) ∙ is

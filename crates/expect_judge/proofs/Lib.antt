@@ -1,8 +1,6 @@
-pub mod Reporting
 pub mod Often
 pub mod Naming
 pub mod Indexed
 pub mod Expecting
 pub mod Ordered
 pub mod Judging
-pub mod Lined

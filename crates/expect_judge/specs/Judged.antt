@@ -1,5 +1,5 @@
--- What is found of each line of a script, by the trace and, of each line, the state line that it speaks of (own). Lines count
--- from 1.
+-- What is found of each line of a script, by what is told of its run and, of each line, the state line that it speaks of (own). Lines
+-- count from 1.
 use Rattle.std.specs.Prelude.{ℕ, ◌+◌, ◌-◌, ◌^◌, ◌==◌, min, ◌||◌, not, codes, Bool, true, false, if◌then◌else◌, length, List, [], ◌∷◌, Option, Some, None, Result, Ok, Err}
 use Rattle.std.specs.Str.{bytes_eq}
 use Rattle.std.specs.List.{list_all, list_any}
@@ -13,7 +13,7 @@ use Rattle.expect_text.specs.Faults.{line_of_label, event_meant}
 use Rattle.text_core.specs.declared.at.AtWord.{AtWord}
 use Rattle.expect_text.specs.declared.form.ExpectCause.{ExpectCause}
 use Rattle.expect_text.specs.declared.form.Quantity.{Quantity}
-use Rattle.expect_judge.specs.Told.{EventLine, event_at, refusal_in, state_words}
+use Rattle.expect_judge.specs.Told.{EventLine, RoundLine, Told, event_at}
 use Rattle.expect_judge.specs.Named.{is_labelled}
 use Rattle.expect_judge.specs.Seen.{ends_seen, first_of}
 use Rattle.expect_judge.specs.declared.seen.TimeSpan.{TimeSpan}
@@ -52,10 +52,10 @@ rounds_by quantity span count first = record {
 abbrev pub failure : Judged
 failure = record { holds = Some false; at = None; span = None; count = 0 }
 
-abbrev pub rounds_judged : List ℕ → Quantity → List ℕ → Option TimeSpan → Judged
-rounds_judged trace quantity pattern None = failure
-rounds_judged trace quantity pattern (Some span) =
-    rounds_by quantity span (length (ends_seen trace span pattern)) (first_of (ends_seen trace span pattern))
+abbrev pub rounds_judged : List RoundLine → Quantity → List ℕ → Option TimeSpan → Judged
+rounds_judged rounds quantity pattern None = failure
+rounds_judged rounds quantity pattern (Some span) =
+    rounds_by quantity span (length (ends_seen rounds span pattern)) (first_of (ends_seen rounds span pattern))
 
 -- ---- states
 
@@ -75,6 +75,12 @@ abbrev pub is_state_met : List (List ℕ) → List (List ℕ) → Bool
 is_state_met [] others = true
 is_state_met (word ∷ words) others = if bytes_eq word (codes "not") then lacks_words words others else has_words (word ∷ words) others
 
+-- what the line of a state reports: the words after the device's name
+abbrev pub state_words : List (List ℕ) → List (List ℕ)
+state_words [] = []
+state_words (verb ∷ []) = []
+state_words (verb ∷ device ∷ words) = words
+
 abbrev pub state_judged : List ℕ → List (List ℕ) → Judged
 state_judged state words = record { holds = Some (is_state_met words (state_words (words_of state))); at = None; span = None; count = 0 }
 
@@ -88,20 +94,20 @@ unremarked_judged told = record { holds = Some (length told == 0); at = None; sp
 
 abbrev pub refusal_by : Option EventLine → Option (List ℕ)
 refusal_by None = None
-refusal_by (Some e) = refusal_in e.outcome
+refusal_by (Some e) = e.refused
 
 -- the word with which the event of a line was refused
-abbrev pub refusal_at : List ℕ → Option ℕ → Option (List ℕ)
-refusal_at trace None = None
-refusal_at trace (Some line) = refusal_by (event_at trace line)
+abbrev pub refusal_at : List EventLine → Option ℕ → Option (List ℕ)
+refusal_at events None = None
+refusal_at events (Some line) = refusal_by (event_at events line)
 
 abbrev pub is_word : List ℕ → Option (List ℕ) → Bool
 is_word word None = false
 is_word word (Some other) = bytes_eq other word
 
 -- of a line of this number that names the event of a label, or else that of the line above
-abbrev pub refused_judged : List ℕ → List ℕ → ℕ → Option (List ℕ) → List ℕ → Judged
-refused_judged script trace number name word = record { holds = Some (is_word word (refusal_at trace (event_meant script number name))); at = None; span = None; count = 0 }
+abbrev pub refused_judged : List ℕ → List EventLine → ℕ → Option (List ℕ) → List ℕ → Judged
+refused_judged script events number name word = record { holds = Some (is_word word (refusal_at events (event_meant script number name))); at = None; span = None; count = 0 }
 
 -- ---- lines
 
@@ -113,27 +119,27 @@ event_instant (Some e) = Some e.at
 abbrev pub of_instant : Option ℕ → Judged
 of_instant at = record { holds = None; at = at; span = None; count = 0 }
 
--- and that of an event the one of its line in the trace
-abbrev pub other_judged : List ℕ → ℕ → Option ℕ → Judged
-other_judged trace number None = of_instant (event_instant (event_at trace number))
-other_judged trace number (Some onset) = of_instant (Some onset)
+-- and that of an event the one at which it was applied
+abbrev pub other_judged : List EventLine → ℕ → Option ℕ → Judged
+other_judged events number None = of_instant (event_instant (event_at events number))
+other_judged events number (Some onset) = of_instant (Some onset)
 
 -- nothing is found of a line that expects nothing, where no label names it
 abbrev pub nothing : Judged
 nothing = record { holds = None; at = None; span = None; count = 0 }
 
 -- of a line that may have a label and be a pulse
-abbrev pub form_judged : List ℕ → List ℕ → List ℕ → (ℕ → Option ℕ) → ℕ → Bool → Option ℕ → Result ExpectLine (AtWord ExpectCause) → Judged
-form_judged script trace state at number named onset (Err cause) = failure
-form_judged script trace state at number named onset (Ok Other) = if named then other_judged trace number onset else nothing
-form_judged script trace state at number named onset (Ok (Rounds quantity window pattern)) = rounds_judged trace quantity pattern (span_of script at window)
-form_judged script trace state at number named onset (Ok (State time device words)) = state_judged state words
-form_judged script trace state at number named onset (Ok (Refused name word)) = refused_judged script trace number name word
-form_judged script trace state at number named onset (Ok (Unremarked pattern)) = unremarked_judged state
+abbrev pub form_judged : List ℕ → Told → List ℕ → (ℕ → Option ℕ) → ℕ → Bool → Option ℕ → Result ExpectLine (AtWord ExpectCause) → Judged
+form_judged script told state at number named onset (Err cause) = failure
+form_judged script told state at number named onset (Ok Other) = if named then other_judged told.events number onset else nothing
+form_judged script told state at number named onset (Ok (Rounds quantity window pattern)) = rounds_judged told.rounds quantity pattern (span_of script at window)
+form_judged script told state at number named onset (Ok (State time device words)) = state_judged state words
+form_judged script told state at number named onset (Ok (Refused name word)) = refused_judged script told.events number name word
+form_judged script told state at number named onset (Ok (Unremarked pattern)) = unremarked_judged state
 
 -- a line of this number, by the instants of the lines above and the state line that it speaks of
-abbrev pub line_judged : List ℕ → List ℕ → List ℕ → (ℕ → Option ℕ) → ℕ → List ℕ → Judged
-line_judged script trace state at number line = form_judged script trace state at number (is_labelled line) (onset_in (unlabelled_words (words_of line))) (form_in (unlabelled_words (words_of line)))
+abbrev pub line_judged : List ℕ → Told → List ℕ → (ℕ → Option ℕ) → ℕ → List ℕ → Judged
+line_judged script told state at number line = form_judged script told state at number (is_labelled line) (onset_in (unlabelled_words (words_of line))) (form_in (unlabelled_words (words_of line)))
 
 -- with the instant of one line more, where it has one
 abbrev pub noted : (ℕ → Option ℕ) → ℕ → Option ℕ → ℕ → Option ℕ
@@ -141,16 +147,16 @@ noted at number None line = at line
 noted at number (Some instant) line = if number == line then Some instant else at line
 
 -- these lines, of which the first has this number, and the state line of each
-abbrev pub lines_judged : List ℕ → List ℕ → (ℕ → Option ℕ) → ℕ → List (List ℕ) → List (List ℕ) → List Judged
-lines_judged script trace at number [] states = []
-lines_judged script trace at number (line ∷ lines) [] = []
-lines_judged script trace at number (line ∷ lines) (state ∷ states) =
-    line_judged script trace state at number line
-    ∷ lines_judged script trace (noted at number (line_judged script trace state at number line).at) (number + 1) lines states
+abbrev pub lines_judged : List ℕ → Told → (ℕ → Option ℕ) → ℕ → List (List ℕ) → List (List ℕ) → List Judged
+lines_judged script told at number [] states = []
+lines_judged script told at number (line ∷ lines) [] = []
+lines_judged script told at number (line ∷ lines) (state ∷ states) =
+    line_judged script told state at number line
+    ∷ lines_judged script told (noted at number (line_judged script told state at number line).at) (number + 1) lines states
 
 -- all lines
-abbrev pub verdicts_of : List ℕ → List ℕ → List (List ℕ) → List Judged
-verdicts_of script trace states = lines_judged script trace (λ line. None) 1 (lines_of script) states
+abbrev pub verdicts_of : List ℕ → Told → List (List ℕ) → List Judged
+verdicts_of script told states = lines_judged script told (λ line. None) 1 (lines_of script) states
 
 -- ---- expectations alone
 
@@ -173,8 +179,8 @@ findings_from number [] js = []
 findings_from number (state ∷ states) [] = []
 findings_from number (state ∷ states) (j ∷ js) = or_more number state j j.holds (findings_from (number + 1) states js)
 
-abbrev pub findings_of : List ℕ → List ℕ → List (List ℕ) → List JudgedLine
-findings_of script trace states = findings_from 1 states (verdicts_of script trace states)
+abbrev pub findings_of : List ℕ → Told → List (List ℕ) → List JudgedLine
+findings_of script told states = findings_from 1 states (verdicts_of script told states)
 
 -- ---- state lines
 

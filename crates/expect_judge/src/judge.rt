@@ -1,16 +1,16 @@
-//! What is found of each line of a script, by the trace.
+//! What is found of each line of a script, by what is told of its run.
 ghost use Rattle.std.specs.Prelude.{◌≡◌, ◌++◌, [], ℕ, map, nat_eq, IfOk, OnOk};
 ghost use Rattle.std.specs.HashMap.{get};
 ghost use Rattle.std.specs.Option.{option_copied, option_map};
 ghost use Rattle.text_core.specs.Lines.{lines_of};
 ghost use Rattle.text_core.specs.Words.{words_after, words_of};
 ghost use Rattle.expect_text.specs.Form.{window_of};
-ghost use Rattle.expect_judge.specs.Told.{event_as};
-ghost use Rattle.expect_judge.specs.Judged.{event_instant, failure, finding_as, findings_of, first_state, has_word, has_words, instant_at, is_of_state, is_state_met, is_word, lacks_words, later_states, line_judged, noted, nothing, or_more, other_judged, refusal_at, refused_judged, rounds_judged, span_from, span_of, state_judged, states_for, unremarked_judged};
+ghost use Rattle.expect_judge.specs.Told.{event_as, round_as, told_as};
+ghost use Rattle.expect_judge.specs.Judged.{event_instant, failure, finding_as, findings_of, first_state, has_word, has_words, instant_at, is_of_state, is_state_met, is_word, lacks_words, later_states, line_judged, noted, nothing, or_more, other_judged, refusal_at, refused_judged, rounds_judged, span_from, span_of, state_judged, state_words, states_for, unremarked_judged};
 
 use crate::index::Index;
+use crate::lines::{EventLine, Told};
 use crate::named::is_labelled;
-use crate::reported::{EventLine, refusal_in, state_words};
 use crate::seen::TimeSpan;
 use expect_text::{ExpectLine, ExpectWindow, Labels, Quantity, form_in, onset_in, unlabelled};
 use std::alloc::{AllocError, Global};
@@ -103,7 +103,7 @@ fn rounds_judged(
     pattern: &[u8],
     span: Option<TimeSpan>,
 ) -> Judged
-    ensures { result ≡ rounds_judged index.now.trace.now quantity pattern.now span }
+    ensures { result ≡ rounds_judged (map round_as index.now.told.rounds.now) quantity pattern.now span }
 {
     let Some(span) = span else {
         return failure();
@@ -119,11 +119,11 @@ fn rounds_judged(
 }
 
 fn refusal_at<'a>(index: &Index<'a>, line: Option<u64>) -> Option<&'a [u8]>
-    ensures { option_copied result ≡ refusal_at index.now.trace.now line }
+    ensures { option_copied result ≡ refusal_at (map event_as index.now.told.events.now) line }
 {
     match index.event_at(line?) {
         None => None,
-        Some(event) => refusal_in(event.outcome),
+        Some(event) => event.refused,
     }
 }
 
@@ -143,7 +143,7 @@ fn refused_judged(
     label: Option<&[u8]>,
     word: &[u8],
 ) -> Judged
-    ensures { result ≡ refused_judged labels.now.script.now index.now.trace.now number (option_copied label.entry) word.now }
+    ensures { result ≡ refused_judged labels.now.script.now (map event_as index.now.told.events.now) number (option_copied label.entry) word.now }
 {
     let line = labels.event_meant(number, label);
     Judged {
@@ -210,6 +210,15 @@ fn is_state_met(words: &[u8], other: Option<&[u8]>) -> bool
     }
 }
 
+// What the line of a state reports after the device's name.
+fn state_words(line: &[u8]) -> Option<&[u8]>
+    ensures { words_after (option_copied result) ≡ state_words (words_of line.now) }
+{
+    let (_verb, rest) = first_word(line);
+    let (_device, rest) = first_word(rest?);
+    rest
+}
+
 fn state_judged(state: &[u8], words: &[u8]) -> Judged
     ensures { result ≡ state_judged state.now (words_of words.now) }
 {
@@ -233,7 +242,7 @@ fn event_instant(event: Option<EventLine>) -> Option<u64>
 
 // What is found of a line that has a label and expects nothing.
 fn other_judged(index: &Index<'_>, number: u64, onset: Option<u64>) -> Judged
-    ensures { result ≡ other_judged index.now.trace.now number onset }
+    ensures { result ≡ other_judged (map event_as index.now.told.events.now) number onset }
 {
     let at = match onset {
         None => event_instant(index.event_at(number)),
@@ -267,7 +276,7 @@ fn line_judged(
     number: u64,
     line: &[u8],
 ) -> Judged
-    ensures { result ≡ line_judged labels.now.script.now index.now.trace.now state.now (λ number. get nat_eq instants.now number) number line.now }
+    ensures { result ≡ line_judged labels.now.script.now (told_as index.now.told) state.now (λ number. get nat_eq instants.now number) number line.now }
 {
     match form_in(unlabelled(line).rest) {
         Err(_) => failure(),
@@ -374,7 +383,7 @@ fn add_finding<'a>(
     Ok(())
 }
 
-// What is found of each line of a script that expects something, in order, by its trace.
+// What is found of each line of a script that expects something, in order.
 #[tactic(auto, using(crate::proofs::Judging::no_more, crate::proofs::Judging::none_noted))]
 fn judged_by<'a>(
     alloc: Global,
@@ -382,7 +391,7 @@ fn judged_by<'a>(
     index: &Index<'_>,
     states: &'a [Vec<u8>],
 ) -> Result<Vec<JudgedLine<'a>>, AllocError>
-    ensures { IfOk result (λ found. map finding_as found.items ≡ findings_of labels.now.script.now index.now.trace.now (states_for (lines_of labels.now.script.now) (map (λ state. state.items) states.now))) }
+    ensures { IfOk result (λ found. map finding_as found.items ≡ findings_of labels.now.script.now (told_as index.now.told) (states_for (lines_of labels.now.script.now) (map (λ state. state.items) states.now))) }
 {
     let mut instants = HashMap::new(alloc);
     let mut found = Vec::new(alloc);
@@ -402,7 +411,7 @@ fn judged_by<'a>(
     Ok(found)
 }
 
-/// What is found of each line of a script that expects something, in order, by the trace of its run and the state lines of the
+/// What is found of each line of a script that expects something, in order, by what is told of its run and the state lines of the
 /// lines that speak of one.
 ///
 /// # Errors
@@ -411,11 +420,11 @@ fn judged_by<'a>(
 pub fn all_judged<'a>(
     alloc: Global,
     labels: &Labels<'_>,
-    trace: &[u8],
+    told: &Told<'_>,
     states: &'a [Vec<u8>],
 ) -> Result<Vec<JudgedLine<'a>>, AllocError>
-    ensures { IfOk result (λ found. map finding_as found.items ≡ findings_of labels.now.script.now trace.now (states_for (lines_of labels.now.script.now) (map (λ state. state.items) states.now))) }
+    ensures { IfOk result (λ found. map finding_as found.items ≡ findings_of labels.now.script.now (told_as told.now) (states_for (lines_of labels.now.script.now) (map (λ state. state.items) states.now))) }
 {
-    let index = Index::new(alloc, labels.script, trace)?;
+    let index = Index::new(alloc, labels.script, told)?;
     judged_by(alloc, labels, &index, states)
 }

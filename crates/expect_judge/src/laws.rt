@@ -1,5 +1,5 @@
 //! Laws of expectations of rounds.
-ghost use Rattle.expect_judge.specs.Laws.{LabelledLinesAreNamed, LargerSpansHold, NeverIsTheContrary, OnceIsSome};
+ghost use Rattle.expect_judge.specs.Laws.{LabelledLinesAreNamed, LargerSpansHold, NeverIsTheContrary, OnceIsSome, SameRoundsEndTogether};
 
 /// `none` is the contrary of the plain form, in the same span.
 pub fn never_is_the_contrary()
@@ -20,4 +20,9 @@ pub fn larger_spans_hold()
 /// The line that a label stands for is one that others speak of.
 pub fn labelled_lines_are_named()
     ensures { LabelledLinesAreNamed }
+{}
+
+/// Where the same rounds are seen, they end at the same instants.
+pub fn same_rounds_end_together()
+    ensures { SameRoundsEndTogether }
 {}

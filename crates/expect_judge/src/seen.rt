@@ -1,10 +1,10 @@
-//! The rounds of a trace in a span of time that meet a pattern.
+//! Rounds in a span of time that meet a pattern.
 ghost use Rattle.std.specs.Prelude.{◌≡◌, ◌+◌, ◌<◌, ◌≤◌, ◌∷◌, [], true, drop, length, map, take, List, ℕ};
-ghost use Rattle.expect_judge.specs.Index.{are_in_order, ends_among, leads, lines_among};
-ghost use Rattle.expect_judge.specs.Seen.{end_seen, first_of, is_seen, or_first};
+ghost use Rattle.expect_judge.specs.Index.{are_in_order, leads};
+ghost use Rattle.expect_judge.specs.Seen.{ends_seen, first_of, is_seen, or_first, rounds_seen};
 ghost use Rattle.expect_judge.specs.Told.{round_as};
 
-use crate::reported::{RoundLine, round_in};
+use crate::lines::RoundLine;
 use expect_text::meets;
 
 /// A span of time, in microseconds.
@@ -26,18 +26,6 @@ pub fn is_seen(span: TimeSpan, pattern: &[u8], round: &RoundLine) -> bool
     ensures { result ≡ is_seen span pattern.now (round_as round.now) }
 {
     span.from <= round.begin && round.at <= span.to && meets(pattern, round.reported)
-}
-
-/// The end of a line's round, where it began and ended within the span and what its line says meets the pattern.
-pub fn end_seen(span: TimeSpan, pattern: &[u8], line: &[u8]) -> Option<u64>
-    ensures { result ≡ end_seen span pattern.now line.now }
-{
-    let round = round_in(line)?;
-    if is_seen(span, pattern, &round) {
-        Some(round.at)
-    } else {
-        None
-    }
 }
 
 fn or_first(first: Option<u64>, at: u64) -> Option<u64>
@@ -77,8 +65,7 @@ pub(crate) fn are_in_order(rounds: &[RoundLine<'_>]) -> bool
 fn began_before(rounds: &[RoundLine<'_>], place: usize, span: TimeSpan) -> bool
     requires in_order { are_in_order rounds.now ≡ true }
     requires within { place < length rounds.now }
-    ensures ends { result ≡ true → (pattern : List ℕ) → ends_among (map round_as (drop (place + 1) rounds.now)) span pattern ≡ ends_among (map round_as rounds.now) span pattern }
-    ensures lines { result ≡ true → (pattern : List ℕ) → lines_among (drop (place + 1) rounds.now) span pattern ≡ lines_among rounds.now span pattern }
+    ensures { result ≡ true → (pattern : List ℕ) → rounds_seen (map round_as (drop (place + 1) rounds.now)) span pattern ≡ rounds_seen (map round_as rounds.now) span pattern }
 {
     rounds[place].begin < span.from
 }
@@ -87,7 +74,7 @@ fn began_before(rounds: &[RoundLine<'_>], place: usize, span: TimeSpan) -> bool
 fn ended_after(rounds: &[RoundLine<'_>], place: usize, span: TimeSpan) -> bool
     requires in_order { are_in_order rounds.now ≡ true }
     requires within { place < length rounds.now }
-    ensures { result ≡ true → (pattern : List ℕ) → lines_among (take place rounds.now) span pattern ≡ lines_among rounds.now span pattern }
+    ensures { result ≡ true → (pattern : List ℕ) → rounds_seen (map round_as (take place rounds.now)) span pattern ≡ rounds_seen (map round_as rounds.now) span pattern }
 {
     span.to < rounds[place].at
 }
@@ -96,8 +83,7 @@ fn ended_after(rounds: &[RoundLine<'_>], place: usize, span: TimeSpan) -> bool
 pub(crate) fn first_place(rounds: &[RoundLine<'_>], span: TimeSpan) -> usize
     requires { are_in_order rounds.now ≡ true }
     ensures within { result ≤ length rounds.now }
-    ensures same { (pattern : List ℕ) → ends_among (map round_as (drop result rounds.now)) span pattern ≡ ends_among (map round_as rounds.now) span pattern }
-    ensures lines { (pattern : List ℕ) → lines_among (drop result rounds.now) span pattern ≡ lines_among rounds.now span pattern }
+    ensures same { (pattern : List ℕ) → rounds_seen (map round_as (drop result rounds.now)) span pattern ≡ rounds_seen (map round_as rounds.now) span pattern }
 {
     let mut start = 0usize;
     let mut width = rounds.len();
@@ -118,7 +104,7 @@ pub(crate) fn first_place(rounds: &[RoundLine<'_>], span: TimeSpan) -> usize
 pub(crate) fn last_place(rounds: &[RoundLine<'_>], span: TimeSpan) -> usize
     requires { are_in_order rounds.now ≡ true }
     ensures within { result ≤ length rounds.now }
-    ensures lines { (pattern : List ℕ) → lines_among (take result rounds.now) span pattern ≡ lines_among rounds.now span pattern }
+    ensures same { (pattern : List ℕ) → rounds_seen (map round_as (take result rounds.now)) span pattern ≡ rounds_seen (map round_as rounds.now) span pattern }
 {
     let mut start = 0usize;
     let mut end = rounds.len();
@@ -136,8 +122,8 @@ pub(crate) fn last_place(rounds: &[RoundLine<'_>], span: TimeSpan) -> usize
 // How many of these rounds, which are in order, are seen: those after the first that ended after the span are not looked at.
 fn seen_until(rounds: &[RoundLine<'_>], span: TimeSpan, pattern: &[u8]) -> Seen
     requires { are_in_order rounds.now ≡ true }
-    ensures count { result.count ≡ length (ends_among (map round_as rounds.now) span pattern.now) }
-    ensures first { result.first ≡ first_of (ends_among (map round_as rounds.now) span pattern.now) }
+    ensures count { result.count ≡ length (ends_seen (map round_as rounds.now) span pattern.now) }
+    ensures first { result.first ≡ first_of (ends_seen (map round_as rounds.now) span pattern.now) }
 {
     let mut rest = rounds;
     let mut count = 0u64;
@@ -164,8 +150,8 @@ fn seen_until(rounds: &[RoundLine<'_>], span: TimeSpan, pattern: &[u8]) -> Seen
 // How many of these rounds, which are in order, are seen, and the end of the first.
 fn rounds_in_order_seen(rounds: &[RoundLine<'_>], span: TimeSpan, pattern: &[u8]) -> Seen
     requires { are_in_order rounds.now ≡ true }
-    ensures count { result.count ≡ length (ends_among (map round_as rounds.now) span pattern.now) }
-    ensures first { result.first ≡ first_of (ends_among (map round_as rounds.now) span pattern.now) }
+    ensures count { result.count ≡ length (ends_seen (map round_as rounds.now) span pattern.now) }
+    ensures first { result.first ≡ first_of (ends_seen (map round_as rounds.now) span pattern.now) }
 {
     let (_earlier, rest) = rounds.split_at(first_place(rounds, span));
     seen_until(rest, span, pattern)
@@ -173,8 +159,8 @@ fn rounds_in_order_seen(rounds: &[RoundLine<'_>], span: TimeSpan, pattern: &[u8]
 
 // How many of these rounds are seen, and the end of the first.
 fn all_seen(rounds: &[RoundLine<'_>], span: TimeSpan, pattern: &[u8]) -> Seen
-    ensures count { result.count ≡ length (ends_among (map round_as rounds.now) span pattern.now) }
-    ensures first { result.first ≡ first_of (ends_among (map round_as rounds.now) span pattern.now) }
+    ensures count { result.count ≡ length (ends_seen (map round_as rounds.now) span pattern.now) }
+    ensures first { result.first ≡ first_of (ends_seen (map round_as rounds.now) span pattern.now) }
 {
     let mut rest = rounds;
     let mut count = 0u64;
@@ -198,8 +184,8 @@ pub(crate) fn rounds_seen(
     pattern: &[u8],
 ) -> Seen
     requires { in_order ≡ true → are_in_order rounds.now ≡ true }
-    ensures count { result.count ≡ length (ends_among (map round_as rounds.now) span pattern.now) }
-    ensures first { result.first ≡ first_of (ends_among (map round_as rounds.now) span pattern.now) }
+    ensures count { result.count ≡ length (ends_seen (map round_as rounds.now) span pattern.now) }
+    ensures first { result.first ≡ first_of (ends_seen (map round_as rounds.now) span pattern.now) }
 {
     if in_order {
         rounds_in_order_seen(rounds, span, pattern)

@@ -18,27 +18,20 @@ use Rattle.expect_text.specs.Faults.{event_above, event_labelled, is_event_at, l
 use Rattle.text_core.specs.declared.at.AtWord.{AtWord}
 use Rattle.expect_text.specs.declared.form.ExpectCause.{ExpectCause}
 use Rattle.expect_text.specs.declared.form.Quantity.{Quantity}
-use Rattle.expect_judge.specs.Told.{EventLine, RoundLine, event_at, event_in, refusal_in, round_in}
+use Rattle.expect_judge.specs.Told.{EventLine, RoundLine, Told, event_at}
 use Rattle.expect_judge.specs.Named.{form_is_of_above, is_labelled, is_named, is_of_above, name_lines, names_line}
 use Rattle.expect_judge.proofs.Naming.{label_names}
-use Rattle.expect_judge.specs.Seen.{end_by, end_seen, ends_seen, first_of, is_seen}
+use Rattle.expect_judge.proofs.Ordered.{same_ends as ends_of_same}
+use Rattle.expect_judge.specs.Seen.{ends_seen, first_of, is_seen, rounds_seen}
 use Rattle.expect_judge.specs.Judged.{JudgedLine, event_instant, finding_as, findings_from, findings_of, form_judged, instant_at, is_word, noted, or_more, verdicts_of, line_judged, lines_judged, of_instant, refusal_at, refusal_by, rounds_by, rounds_judged, span_from, span_of, states_for}
 use Rattle.expect_judge.specs.declared.seen.TimeSpan.{TimeSpan}
 use Rattle.expect_judge.specs.declared.judge.Judged.{Judged}
 use Rattle.expect_judge.specs.declared.judge.JudgedLine.{JudgedLine as FindingRead}
 use Rattle.expect_run.specs.Report.{Report, report_start, report_with_plan, form_remarks, report, seen_line, shown_round, shown_text, span_remarks, report_by, with_event, with_found, with_line, with_lines, with_refusals, with_remarks, with_test, with_word}
-use Rattle.expect_run.specs.Kept.{Watch, are_timed, has_failed, is_at, is_event_kept, is_kept, is_line_timed, is_met, is_other_kept, is_timed, is_unmet, kept, known_from, known_span, labelled_time, longest_wait, time_at, time_in, times_from, watch_by, watch_of, watches_of}
+use Rattle.expect_run.specs.Kept.{Watch, are_timed, has_failed, is_at, is_event_kept, is_met, is_round_kept, is_timed, is_unmet, kept, known_from, known_span, labelled_time, longest_wait, time_at, time_in, times_from, watch_by, watch_of, watches_of}
 use Rattle.expect_run.proofs.Found.{report_again}
 
 -- ---- lists without some of their elements
-
-kept_given : {X Y : Type 0} (keep : X → Bool) (f : X → Option Y) → ((x : X) → keep x ≡ false → f x ≡ None) → (xs : List X) → filter_map f (filter keep xs) ≡ filter_map f xs
-kept_given keep f h [] = refl
-kept_given {X} {Y} keep f h (x ∷ xs) = by (keep x) refl (kept_given keep f h xs)
-  where
-    by : (b : Bool) → keep x ≡ b → filter_map f (filter keep xs) ≡ filter_map f xs → filter_map f (cond b (x ∷ filter keep xs) (filter keep xs)) ≡ cons_option (f x) (filter_map f xs)
-    by true e more = ap (cons_option (f x)) more
-    by false e more = more ∙ sym (ap (λ (o : Option Y). cons_option o (filter_map f xs)) (h x e))
 
 kept_passes : {X : Type 0} (keep g : X → Bool) → ((x : X) → keep x ≡ false → g x ≡ false) → (xs : List X) → filter g (filter keep xs) ≡ filter g xs
 kept_passes keep g h [] = refl
@@ -48,12 +41,7 @@ kept_passes {X} keep g h (x ∷ xs) = by (keep x) refl (kept_passes keep g h xs)
     by true e more = ap (λ (ys : List X). cond (g x) (x ∷ ys) ys) more
     by false e more = more ∙ sym (ap (λ b. cond b (x ∷ filter g xs) (filter g xs)) (h x e))
 
--- one, or else another
-abbrev first_some : Option EventLine → Option EventLine → Option EventLine
-first_some None other = other
-first_some (Some e) other = Some e
-
--- ---- a line that is not kept
+-- ---- what is not kept
 
 left_of : (a b : Bool) → (a || b) ≡ false → a ≡ false
 left_of true b h = h
@@ -67,16 +55,9 @@ nothing_there : {X : Type 0} (o : Option X) → is_some o ≡ false → o ≡ No
 nothing_there None h = refl
 nothing_there (Some x) h = absurd (false≢true (sym h))
 
-event_left : (script line : List ℕ) → is_kept script line ≡ false → is_event_kept script (event_in (words_of line)) ≡ false
-event_left script line h = left_of (is_event_kept script (event_in (words_of line))) (is_other_kept (watches_of script) (words_of line) (round_in (words_of line))) h
-
 -- the event of a line with this number
 abbrev of_line : ℕ → EventLine → Bool
 of_line number e = e.line == number
-
-abbrev event_of : ℕ → Option EventLine → Option EventLine
-event_of number None = None
-event_of number (Some e) = if e.line == number then Some e else None
 
 same : (a b : ℕ) → (a == b) ≡ true → a ≡ b
 same a b h = grind (arith, nat_tests)
@@ -90,61 +71,33 @@ right_and true b h = h
 right_and false b h = absurd (false≢true h)
 
 -- it is of no line with a label
-no_named : (script : List ℕ) (number : ℕ) (o : Option EventLine) → is_named script number ≡ true → is_event_kept script o ≡ false → event_of number o ≡ None
-no_named script number None named h = refl
-no_named script number (Some e) named h = by (e.line == number) refl
+no_named : (script : List ℕ) (number : ℕ) (e : EventLine) → is_named script number ≡ true → is_event_kept script e ≡ false → of_line number e ≡ false
+no_named script number e named h = by (e.line == number) refl
   where
-    by : (b : Bool) → (e.line == number) ≡ b → (if b then Some e else None) ≡ None
-    by true k =
-        absurd (false≢true (sym (left_of (is_named script e.line) (is_some (refusal_in e.outcome)) h) ∙ ap (is_named script) (same e.line number k) ∙ named))
+    by : (b : Bool) → (e.line == number) ≡ b → b ≡ false
+    by true k = sym (sym (left_of (is_named script e.line) (is_some e.refused) h) ∙ ap (is_named script) (same e.line number k) ∙ named)
     by false k = refl
 
--- the first of a line is the first of those of the line
-find_given : (number : ℕ) (o : Option EventLine) (es : List EventLine) → find (of_line number) (cons_option o es) ≡ first_some (event_of number o) (find (of_line number) es)
-find_given number None es = refl
-find_given number (Some e) es = by (e.line == number)
-  where
-    by : (b : Bool) → cond b (Some e) (find (of_line number) es) ≡ first_some (if b then Some e else None) (find (of_line number) es)
-    by true = refl
-    by false = refl
-
-kept_event : (script : List ℕ) (number : ℕ) → is_named script number ≡ true → (lines : List (List ℕ))
-    → find (of_line number) (filter_map (λ line. event_in (words_of line)) (filter (is_kept script) lines)) ≡ find (of_line number) (filter_map (λ line. event_in (words_of line)) lines)
+kept_event : (script : List ℕ) (number : ℕ) → is_named script number ≡ true → (events : List EventLine) → event_at (filter (is_event_kept script) events) number ≡ event_at events number
 kept_event script number named [] = refl
-kept_event script number named (line ∷ lines) = by (is_kept script line) refl (kept_event script number named lines)
+kept_event script number named (e ∷ events) = by (is_event_kept script e) refl (kept_event script number named events)
   where
-    found : List (List ℕ) → Option EventLine
-    found ls = find (of_line number) (filter_map (λ text. event_in (words_of text)) ls)
-
-    by : (b : Bool) → is_kept script line ≡ b → found (filter (is_kept script) lines) ≡ found lines
-        → found (cond b (line ∷ filter (is_kept script) lines) (filter (is_kept script) lines)) ≡ found (line ∷ lines)
-    by true e more =
-        find_given number (event_in (words_of line)) (filter_map (λ text. event_in (words_of text)) (filter (is_kept script) lines))
-        ∙ ap (first_some (event_of number (event_in (words_of line)))) more
-        ∙ sym (find_given number (event_in (words_of line)) (filter_map (λ text. event_in (words_of text)) lines))
-    by false e more =
-        more
-        ∙ sym (ap (λ (o : Option EventLine). first_some o (found lines)) (no_named script number (event_in (words_of line)) named (event_left script line e)))
-        ∙ sym (find_given number (event_in (words_of line)) (filter_map (λ text. event_in (words_of text)) lines))
+    by : (b : Bool) → is_event_kept script e ≡ b → event_at (filter (is_event_kept script) events) number ≡ event_at events number
+        → event_at (cond b (e ∷ filter (is_event_kept script) events) (filter (is_event_kept script) events)) number ≡ cond (of_line number e) (Some e) (event_at events number)
+    by true k more = ap (λ (o : Option EventLine). cond (of_line number e) (Some e) o) more
+    by false k more = more ∙ sym (ap (λ b. cond b (Some e) (event_at events number)) (no_named script number e named k))
 
 -- a round that is seen is what one of these looks for
 abbrev SpanCovered : List Watch → List ℕ → Option TimeSpan → Type 0
 SpanCovered all pattern None = Unit {0}
 SpanCovered all pattern (Some span) = (r : RoundLine) → is_seen span pattern r ≡ true → list_any (is_met r) all ≡ true
 
-unseen : (all : List Watch) (words : List (List ℕ)) (span : TimeSpan) (pattern : List ℕ) → SpanCovered all pattern (Some span) → (o : Option RoundLine) → is_other_kept all words o ≡ false
-    → end_by span pattern o ≡ None
-unseen all words span pattern covers None h = refl
-unseen all words span pattern covers (Some r) h = by (is_seen span pattern r) refl
+not_seen : (script : List ℕ) (span : TimeSpan) (pattern : List ℕ) → SpanCovered (watches_of script) pattern (Some span) → (r : RoundLine) → is_round_kept script r ≡ false → is_seen span pattern r ≡ false
+not_seen script span pattern covers r h = by (is_seen span pattern r) refl
   where
-    by : (b : Bool) → is_seen span pattern r ≡ b → (if b then Some r.at else None) ≡ None
-    by true e = absurd (false≢true (sym h ∙ covers r e))
+    by : (b : Bool) → is_seen span pattern r ≡ b → b ≡ false
+    by true e = sym (covers r e) ∙ h
     by false e = refl
-
-not_seen : (script : List ℕ) (span : TimeSpan) (pattern : List ℕ) → SpanCovered (watches_of script) pattern (Some span) → (line : List ℕ) → is_kept script line ≡ false → end_seen span pattern line ≡ None
-not_seen script span pattern covers line h =
-    unseen (watches_of script) (words_of line) span pattern covers (round_in (words_of line))
-    (right_of (is_event_kept script (event_in (words_of line))) (is_other_kept (watches_of script) (words_of line) (round_in (words_of line))) h)
 
 -- ---- lines of a script
 
@@ -297,28 +250,20 @@ near_by : (at time : ℕ) → (nat_le time at && nat_le at (time + longest_wait)
 near_by at time h = (grind (arith, nat_tests), grind (arith, nat_tests))
 
 -- the event of a line is near its time, where all are
-found_near : (script : List ℕ) (number instant time : ℕ) → time_at script number ≡ Some time → (lines : List (List ℕ)) → list_all (is_line_timed script) lines ≡ true
-    → event_instant (find (of_line number) (filter_map (λ line. event_in (words_of line)) lines)) ≡ Some instant → IsNear time instant
+found_near : (script : List ℕ) (number instant time : ℕ) → time_at script number ≡ Some time → (events : List EventLine) → are_timed script events ≡ true
+    → event_instant (event_at events number) ≡ Some instant → IsNear time instant
 found_near script number instant time is [] all h = cc
-found_near script number instant time is (line ∷ lines) all h =
-    by (event_in (words_of line)) (left_and (is_line_timed script line) (list_all (is_line_timed script) lines) all) h
-    (λ k. found_near script number instant time is lines (right_and (is_line_timed script line) (list_all (is_line_timed script) lines) all) k)
+found_near script number instant time is (e ∷ events) all h =
+    here (e.line == number) refl (left_and (is_timed script e) (are_timed script events) all) h
+    (λ k. found_near script number instant time is events (right_and (is_timed script e) (are_timed script events) all) k)
   where
-    others : Option EventLine
-    others = find (of_line number) (filter_map (λ text. event_in (words_of text)) lines)
-
-    here : (e : EventLine) (b : Bool) → (e.line == number) ≡ b → is_at e.at (time_at script e.line) ≡ true → event_instant (cond b (Some e) others) ≡ Some instant
-        → (event_instant others ≡ Some instant → IsNear time instant) → IsNear time instant
-    here e true k timed found more =
+    here : (b : Bool) → (e.line == number) ≡ b → is_at e.at (time_at script e.line) ≡ true → event_instant (cond b (Some e) (event_at events number)) ≡ Some instant
+        → (event_instant (event_at events number) ≡ Some instant → IsNear time instant) → IsNear time instant
+    here true k timed found more =
         near_by instant time
         (ap (λ n. nat_le time n && nat_le n (time + longest_wait)) (sym (value e.at instant found))
         ∙ sym (ap (is_at e.at) (ap (time_at script) (same e.line number k) ∙ is)) ∙ timed)
-    here e false k timed found more = more found
-
-    by : (o : Option EventLine) → is_timed script o ≡ true → event_instant (find (of_line number) (cons_option o (filter_map (λ text. event_in (words_of text)) lines))) ≡ Some instant
-        → (event_instant others ≡ Some instant → IsNear time instant) → IsNear time instant
-    by None timed found more = more found
-    by (Some e) timed found more = here e (e.line == number) refl timed found more
+    here false k timed found more = more found
 
 -- ---- the span that is judged lies in the one that is known
 
@@ -378,33 +323,36 @@ met_by number state j None e more h = (ap (λ o. has_failed o && is_some j.span 
 met_by number state j (Some holds) e more h =
     (left_of (is_unmet j) (list_any (λ (f : JudgedLine). is_unmet f.judged) more) h, right_of (is_unmet j) (list_any (λ (f : JudgedLine). is_unmet f.judged) more) h)
 
-module _ (script few trace : List ℕ) (are : lines_of few ≡ filter (is_kept script) (lines_of trace)) (timed : are_timed script (lines_of trace) ≡ true) where
-  same_event : (number : ℕ) → is_named script number ≡ true → event_at few number ≡ event_at trace number
-  same_event number named = ap (λ (ls : List (List ℕ)). find (of_line number) (filter_map (λ line. event_in (words_of line)) ls)) are ∙ kept_event script number named (lines_of trace)
+module _ (script : List ℕ) (told : Told) (timed : are_timed script told.events ≡ true) where
+  same_event : (number : ℕ) → is_named script number ≡ true → event_at (kept script told).events number ≡ event_at told.events number
+  same_event number named = kept_event script number named told.events
 
-  same_ends : (span : TimeSpan) (pattern : List ℕ) → SpanCovered (watches_of script) pattern (Some span) → ends_seen few span pattern ≡ ends_seen trace span pattern
-  same_ends span pattern covers = ap (filter_map (end_seen span pattern)) are ∙ kept_given (is_kept script) (end_seen span pattern) (not_seen script span pattern covers) (lines_of trace)
+  same_rounds : (span : TimeSpan) (pattern : List ℕ) → SpanCovered (watches_of script) pattern (Some span) → rounds_seen (kept script told).rounds span pattern ≡ rounds_seen told.rounds span pattern
+  same_rounds span pattern covers = kept_passes (is_round_kept script) (is_seen span pattern) (not_seen script span pattern covers) told.rounds
 
-  rounds_same : (quantity : Quantity) (pattern : List ℕ) (o : Option TimeSpan) → SpanCovered (watches_of script) pattern o → rounds_judged few quantity pattern o ≡ rounds_judged trace quantity pattern o
+  same_ends : (span : TimeSpan) (pattern : List ℕ) → SpanCovered (watches_of script) pattern (Some span) → ends_seen (kept script told).rounds span pattern ≡ ends_seen told.rounds span pattern
+  same_ends span pattern covers = ends_of_same (kept script told).rounds told.rounds span pattern (same_rounds span pattern covers)
+
+  rounds_same : (quantity : Quantity) (pattern : List ℕ) (o : Option TimeSpan) → SpanCovered (watches_of script) pattern o → rounds_judged (kept script told).rounds quantity pattern o ≡ rounds_judged told.rounds quantity pattern o
   rounds_same quantity pattern None covers = refl
   rounds_same quantity pattern (Some span) covers = ap (λ (ends : List ℕ). rounds_by quantity span (length ends) (first_of ends)) (same_ends span pattern covers)
 
-  refusals_same : (name : List ℕ) → refusal_at few (event_labelled script name) ≡ refusal_at trace (event_labelled script name)
+  refusals_same : (name : List ℕ) → refusal_at (kept script told).events (event_labelled script name) ≡ refusal_at told.events (event_labelled script name)
   refusals_same name = by (event_labelled script name) refl
     where
-      by : (o : Option ℕ) → event_labelled script name ≡ o → refusal_at few o ≡ refusal_at trace o
+      by : (o : Option ℕ) → event_labelled script name ≡ o → refusal_at (kept script told).events o ≡ refusal_at told.events o
       by None e = refl
       by (Some line) e = ap refusal_by (same_event line (label_names true 1 (lines_of script) name line e))
 
-  refusals_above : (number : ℕ) → is_named script (number - 1) ≡ true → refusal_at few (event_above script number) ≡ refusal_at trace (event_above script number)
+  refusals_above : (number : ℕ) → is_named script (number - 1) ≡ true → refusal_at (kept script told).events (event_above script number) ≡ refusal_at told.events (event_above script number)
   refusals_above number named = by (is_event_at script (number - 1))
     where
-      by : (b : Bool) → refusal_at few (if b then Some (number - 1) else None) ≡ refusal_at trace (if b then Some (number - 1) else None)
+      by : (b : Bool) → refusal_at (kept script told).events (if b then Some (number - 1) else None) ≡ refusal_at told.events (if b then Some (number - 1) else None)
       by true = ap refusal_by (same_event (number - 1) named)
       by false = refl
 
   form_same : (state : List ℕ) (at : ℕ → Option ℕ) → AreNear script at → (number : ℕ) (named : Bool) (onset : Option ℕ) (f : Result ExpectLine (AtWord ExpectCause)) → FormCovered script number f
-      → (named ≡ true → is_named script number ≡ true) → form_judged script few state at number named onset f ≡ form_judged script trace state at number named onset f
+      → (named ≡ true → is_named script number ≡ true) → form_judged script (kept script told) state at number named onset f ≡ form_judged script told state at number named onset f
   form_same state at near number named onset (Err cause) c names = refl
   form_same state at near number true None (Ok Other) c names = ap (λ (o : Option EventLine). of_instant (event_instant o)) (same_event number (names refl))
   form_same state at near number true (Some onset) (Ok Other) c names = refl
@@ -418,9 +366,9 @@ module _ (script few trace : List ℕ) (are : lines_of few ≡ filter (is_kept s
 
   -- the instant of a line is near its time
   form_near : (state : List ℕ) (at : ℕ → Option ℕ) (number : ℕ) (named : Bool) (onset : Option ℕ) (f : Result ExpectLine (AtWord ExpectCause)) → FormCovered script number f → OnsetCovered script number onset
-      → (instant time : ℕ) → (form_judged script trace state at number named onset f).at ≡ Some instant → time_at script number ≡ Some time → IsNear time instant
+      → (instant time : ℕ) → (form_judged script told state at number named onset f).at ≡ Some instant → time_at script number ≡ Some time → IsNear time instant
   form_near state at number named onset (Err cause) c o instant time h k = cc
-  form_near state at number true None (Ok Other) c o instant time h k = found_near script number instant time k (lines_of trace) timed h
+  form_near state at number true None (Ok Other) c o instant time h k = found_near script number instant time k told.events timed h
   form_near state at number true (Some onset) (Ok Other) c o instant time h k = untimed time instant (sym o ∙ k)
   form_near state at number false onset (Ok Other) c o instant time h k = cc
   form_near state at number named onset (Ok (Rounds quantity window pattern)) c o instant time h k = untimed time instant (sym c.1 ∙ k)
@@ -429,44 +377,41 @@ module _ (script few trace : List ℕ) (are : lines_of few ≡ filter (is_kept s
   form_near state at number named onset (Ok (Refused name word)) c o instant time h k = cc
 
   next_near : (state : List ℕ) (at : ℕ → Option ℕ) (number : ℕ) (line : List ℕ) → AreNear script at → FormCovered script number (form_in (unlabelled_words (words_of line)))
-      → OnsetCovered script number (onset_in (unlabelled_words (words_of line))) → AreNear script (noted at number (line_judged script trace state at number line).at)
+      → OnsetCovered script number (onset_in (unlabelled_words (words_of line))) → AreNear script (noted at number (line_judged script told state at number line).at)
   next_near state at number line near c o =
-      near_more script at number (line_judged script trace state at number line).at near
+      near_more script at number (line_judged script told state at number line).at near
       (form_near state at number (is_labelled line) (onset_in (unlabelled_words (words_of line))) (form_in (unlabelled_words (words_of line))) c o)
 
   lines_same : (at : ℕ → Option ℕ) (number : ℕ) (lines states : List (List ℕ)) → AreNear script at → AreCovered script number lines
-      → lines_judged script few at number lines states ≡ lines_judged script trace at number lines states
+      → lines_judged script (kept script told) at number lines states ≡ lines_judged script told at number lines states
   lines_same at number [] states near c = refl
   lines_same at number (line ∷ lines) [] near c = refl
   lines_same at number (line ∷ lines) (state ∷ states) near c =
-      ap (λ (j : Judged). j ∷ lines_judged script few (noted at number j.at) (number + 1) lines states)
+      ap (λ (j : Judged). j ∷ lines_judged script (kept script told) (noted at number j.at) (number + 1) lines states)
       (form_same state at near number (is_labelled line) (onset_in (unlabelled_words (words_of line))) (form_in (unlabelled_words (words_of line))) c.0 c.1)
-      ∙ ap (λ (js : List Judged). line_judged script trace state at number line ∷ js)
-      (lines_same (noted at number (line_judged script trace state at number line).at) (number + 1) lines states (next_near state at number line near c.0 c.2) c.3)
+      ∙ ap (λ (js : List Judged). line_judged script told state at number line ∷ js)
+      (lines_same (noted at number (line_judged script told state at number line).at) (number + 1) lines states (next_near state at number line near c.0 c.2) c.3)
 
   -- ---- what is shown
 
-  shown_same : (span : TimeSpan) (pattern : List ℕ) → SpanCovered (watches_of script) pattern (Some span) → shown_text few span pattern ≡ shown_text trace span pattern
-  shown_same span pattern covers =
-      ap (λ (ls : List (List ℕ)). flat_map shown_round (take 8 ls))
-      (ap (filter (λ line. is_some (end_seen span pattern line))) are
-      ∙ kept_passes (is_kept script) (λ line. is_some (end_seen span pattern line)) (λ line h. ap is_some (not_seen script span pattern covers line h)) (lines_of trace))
+  shown_same : (span : TimeSpan) (pattern : List ℕ) → SpanCovered (watches_of script) pattern (Some span) → shown_text (kept script told).rounds span pattern ≡ shown_text told.rounds span pattern
+  shown_same span pattern covers = ap (λ (rs : List RoundLine). flat_map shown_round (take 8 rs)) (same_rounds span pattern covers)
 
-  seen_same : (pattern : List ℕ) (count : ℕ) (span : TimeSpan) → SpanCovered (watches_of script) pattern (Some span) → (count == 0) ≡ false → span_remarks few pattern count (Some span) ≡ span_remarks trace pattern count (Some span)
+  seen_same : (pattern : List ℕ) (count : ℕ) (span : TimeSpan) → SpanCovered (watches_of script) pattern (Some span) → (count == 0) ≡ false → span_remarks (kept script told).rounds pattern count (Some span) ≡ span_remarks told.rounds pattern count (Some span)
   seen_same pattern count span covers h =
       ap (λ t. seen_line count span ++ t)
-      (ap (λ b. shown_text few span (if b then codes "*" else pattern)) h ∙ shown_same span pattern covers ∙ sym (ap (λ b. shown_text trace span (if b then codes "*" else pattern)) h))
+      (ap (λ b. shown_text (kept script told).rounds span (if b then codes "*" else pattern)) h ∙ shown_same span pattern covers ∙ sym (ap (λ b. shown_text told.rounds span (if b then codes "*" else pattern)) h))
 
   span_same : (quantity : Quantity) (pattern : List ℕ) (o : Option TimeSpan) → SpanCovered (watches_of script) pattern o
-      → (is_some (rounds_judged trace quantity pattern o).span && ((rounds_judged trace quantity pattern o).count == 0)) ≡ false
-      → span_remarks few pattern (rounds_judged trace quantity pattern o).count (rounds_judged trace quantity pattern o).span
-      ≡ span_remarks trace pattern (rounds_judged trace quantity pattern o).count (rounds_judged trace quantity pattern o).span
+      → (is_some (rounds_judged told.rounds quantity pattern o).span && ((rounds_judged told.rounds quantity pattern o).count == 0)) ≡ false
+      → span_remarks (kept script told).rounds pattern (rounds_judged told.rounds quantity pattern o).count (rounds_judged told.rounds quantity pattern o).span
+      ≡ span_remarks told.rounds pattern (rounds_judged told.rounds quantity pattern o).count (rounds_judged told.rounds quantity pattern o).span
   span_same quantity pattern None covers h = refl
-  span_same quantity pattern (Some span) covers h = seen_same pattern (length (ends_seen trace span pattern)) span covers h
+  span_same quantity pattern (Some span) covers h = seen_same pattern (length (ends_seen told.rounds span pattern)) span covers h
 
   remarks_same : (state : List ℕ) (at : ℕ → Option ℕ) → AreNear script at → (number : ℕ) (named : Bool) (onset : Option ℕ) (f : Result ExpectLine (AtWord ExpectCause)) → FormCovered script number f
-      → (is_some (form_judged script trace state at number named onset f).span && ((form_judged script trace state at number named onset f).count == 0)) ≡ false
-      → form_remarks few state (form_judged script trace state at number named onset f) f ≡ form_remarks trace state (form_judged script trace state at number named onset f) f
+      → (is_some (form_judged script told state at number named onset f).span && ((form_judged script told state at number named onset f).count == 0)) ≡ false
+      → form_remarks (kept script told).rounds state (form_judged script told state at number named onset f) f ≡ form_remarks told.rounds state (form_judged script told state at number named onset f) f
   remarks_same state at near number named onset (Err cause) c h = refl
   remarks_same state at near number named onset (Ok Other) c h = refl
   remarks_same state at near number named onset (Ok (Rounds quantity window pattern)) c h =
@@ -476,78 +421,74 @@ module _ (script few trace : List ℕ) (are : lines_of few ≡ filter (is_kept s
   remarks_same state at near number named onset (Ok (Refused name word)) c h = refl
 
   line_same : (state : List ℕ) (r : Report) (at : ℕ → Option ℕ) (number : ℕ) (line : List ℕ) → AreNear script at → FormCovered script number (form_in (unlabelled_words (words_of line)))
-      → is_unmet (line_judged script trace state at number line) ≡ false
-      → with_line few state r number line (line_judged script trace state at number line) ≡ with_line trace state r number line (line_judged script trace state at number line)
+      → is_unmet (line_judged script told state at number line) ≡ false
+      → with_line (kept script told).rounds state r number line (line_judged script told state at number line) ≡ with_line told.rounds state r number line (line_judged script told state at number line)
   line_same state r at number line near c h = by j.holds h
     where
       j : Judged
-      j = line_judged script trace state at number line
+      j = line_judged script told state at number line
 
-      by : (o : Option Bool) → (has_failed o && is_some j.span && (j.count == 0)) ≡ false → with_found few state r number line j o ≡ with_found trace state r number line j o
+      by : (o : Option Bool) → (has_failed o && is_some j.span && (j.count == 0)) ≡ false → with_found (kept script told).rounds state r number line j o ≡ with_found told.rounds state r number line j o
       by None k = refl
       by (Some true) k = refl
       by (Some false) k =
           ap (with_remarks (with_test r false number [] line) false) (remarks_same state at near number (is_labelled line) (onset_in (unlabelled_words (words_of line))) (form_in (unlabelled_words (words_of line))) c k)
 
   tests_same : (r : Report) (at : ℕ → Option ℕ) (number : ℕ) (lines states : List (List ℕ)) → AreNear script at → AreCovered script number lines
-      → list_any (λ f. is_unmet f.judged) (findings_from number states (lines_judged script trace at number lines states)) ≡ false
-      → with_lines few r number lines states (lines_judged script trace at number lines states) ≡ with_lines trace r number lines states (lines_judged script trace at number lines states)
+      → list_any (λ f. is_unmet f.judged) (findings_from number states (lines_judged script told at number lines states)) ≡ false
+      → with_lines (kept script told).rounds r number lines states (lines_judged script told at number lines states) ≡ with_lines told.rounds r number lines states (lines_judged script told at number lines states)
   tests_same r at number [] states near c h = refl
   tests_same r at number (line ∷ lines) [] near c h = refl
   tests_same r at number (line ∷ lines) (state ∷ states) near c h =
-      let j : Judged = line_judged script trace state at number line in
-      let js : List Judged = lines_judged script trace (noted at number j.at) (number + 1) lines states in
+      let j : Judged = line_judged script told state at number line in
+      let js : List Judged = lines_judged script told (noted at number j.at) (number + 1) lines states in
       let met = met_by number state j j.holds refl (findings_from (number + 1) states js) h in
-      ap (λ (q : Report). with_lines few q (number + 1) lines states js) (line_same state r at number line near c.0 met.0)
-      ∙ tests_same (with_line trace state r number line j) (noted at number j.at) (number + 1) lines states (next_near state at number line near c.0 c.2) c.3 met.1
+      ap (λ (q : Report). with_lines (kept script told).rounds q (number + 1) lines states js) (line_same state r at number line near c.0 met.0)
+      ∙ tests_same (with_line told.rounds state r number line j) (noted at number j.at) (number + 1) lines states (next_near state at number line near c.0 c.2) c.3 met.1
 
 -- ---- refused events
 
-no_refusal : (script : List ℕ) (r : Report) (o : Option EventLine) → is_event_kept script o ≡ false → with_event script r o ≡ r
-no_refusal script r None h = refl
-no_refusal script r (Some e) h =
-    ap (with_word script r e.line) (nothing_there (refusal_in e.outcome) (right_of (is_named script e.line) (is_some (refusal_in e.outcome)) h))
+no_refusal : (script : List ℕ) (r : Report) (e : EventLine) → is_event_kept script e ≡ false → with_event script r e ≡ r
+no_refusal script r e h = ap (with_word script r e.line) (nothing_there e.refused (right_of (is_named script e.line) (is_some e.refused) h))
 
-events_same : (script : List ℕ) (r : Report) (lines : List (List ℕ)) → with_refusals script r (filter (is_kept script) lines) ≡ with_refusals script r lines
+events_same : (script : List ℕ) (r : Report) (events : List EventLine) → with_refusals script r (filter (is_event_kept script) events) ≡ with_refusals script r events
 events_same script r [] = refl
-events_same script r (line ∷ lines) =
-    by (is_kept script line) refl (events_same script (with_event script r (event_in (words_of line))) lines) (events_same script r lines)
+events_same script r (e ∷ events) = by (is_event_kept script e) refl (events_same script (with_event script r e) events) (events_same script r events)
   where
-    by : (b : Bool) → is_kept script line ≡ b
-        → with_refusals script (with_event script r (event_in (words_of line))) (filter (is_kept script) lines) ≡ with_refusals script (with_event script r (event_in (words_of line))) lines
-        → with_refusals script r (filter (is_kept script) lines) ≡ with_refusals script r lines
-        → with_refusals script r (cond b (line ∷ filter (is_kept script) lines) (filter (is_kept script) lines)) ≡ with_refusals script (with_event script r (event_in (words_of line))) lines
-    by true e more same = more
-    by false e more same = same ∙ sym (ap (λ (q : Report). with_refusals script q lines) (no_refusal script r (event_in (words_of line)) (event_left script line e)))
+    by : (b : Bool) → is_event_kept script e ≡ b
+        → with_refusals script (with_event script r e) (filter (is_event_kept script) events) ≡ with_refusals script (with_event script r e) events
+        → with_refusals script r (filter (is_event_kept script) events) ≡ with_refusals script r events
+        → with_refusals script r (cond b (e ∷ filter (is_event_kept script) events) (filter (is_event_kept script) events)) ≡ with_refusals script (with_event script r e) events
+    by true k more rest = more
+    by false k more rest = rest ∙ sym (ap (λ (q : Report). with_refusals script q events) (no_refusal script r e k))
 
 -- ---- all
 
 no_instant : (script : List ℕ) → AreNear script (λ line. None)
 no_instant script number instant time h k = cc
 
-enough : (script few trace : List ℕ) (states : List (List ℕ)) (found : List JudgedLine) (r : Report) → found ≡ findings_of script few states
-    → list_any (λ f. is_unmet f.judged) found ≡ false → r ≡ report_by script few found → lines_of few ≡ kept script (lines_of trace) → are_timed script (lines_of trace) ≡ true
-    → r ≡ report script trace states
-enough script few trace states found r is h made are timed =
+enough : (script : List ℕ) (told : Told) (states : List (List ℕ)) (found : List JudgedLine) (r : Report) → found ≡ findings_of script (kept script told) states
+    → list_any (λ f. is_unmet f.judged) found ≡ false → r ≡ report_by script (kept script told) found → are_timed script told.events ≡ true → r ≡ report script told states
+enough script told states found r is h made timed =
     let all = lines_of script in
+    let few = kept script told in
     let near = no_instant script in
     let c = covered script 1 all (λ r k. k) (λ other k. k) (λ other k. refl) in
-    let js : verdicts_of script few states ≡ verdicts_of script trace states = lines_same script few trace are timed (λ line. None) 1 all states near c in
-    let met : list_any (λ f. is_unmet f.judged) (findings_of script trace states) ≡ false =
+    let js : verdicts_of script few states ≡ verdicts_of script told states = lines_same script told timed (λ line. None) 1 all states near c in
+    let met : list_any (λ f. is_unmet f.judged) (findings_of script told states) ≡ false =
     ap (λ (vs : List Judged). list_any (λ (f : JudgedLine). is_unmet f.judged) (findings_from 1 states vs)) (sym js) ∙ ap (list_any (λ (f : JudgedLine). is_unmet f.judged)) (sym is) ∙ h in
-    let tests : with_lines few report_start 1 all states (verdicts_of script few states) ≡ with_lines trace report_start 1 all states (verdicts_of script trace states) =
-    ap (with_lines few report_start 1 all states) js ∙ tests_same script few trace are timed report_start (λ line. None) 1 all states near c met in
+    let tests : with_lines few.rounds report_start 1 all states (verdicts_of script few states) ≡ with_lines told.rounds report_start 1 all states (verdicts_of script told states) =
+    ap (with_lines few.rounds report_start 1 all states) js ∙ tests_same script told timed report_start (λ line. None) 1 all states near c met in
     made ∙ ap (report_by script few) is ∙ report_again script few states (verdicts_of script few states)
-    ∙ ap (λ (ls : List (List ℕ)). report_with_plan (with_refusals script (with_lines few report_start 1 all states (verdicts_of script few states)) ls)) are
-    ∙ ap report_with_plan (events_same script (with_lines few report_start 1 all states (verdicts_of script few states)) (lines_of trace))
-    ∙ ap (λ (r : Report). report_with_plan (with_refusals script r (lines_of trace))) tests
+    ∙ ap report_with_plan (events_same script (with_lines few.rounds report_start 1 all states (verdicts_of script few states)) told.events)
+    ∙ ap (λ (r : Report). report_with_plan (with_refusals script r told.events)) tests
 
 -- what is found is lent twice
-pub kept_is_enough : (script few trace : List ℕ) (states : List (List ℕ)) (found looked lent : List FindingRead) (r : Report)
+pub kept_is_enough : (script : List ℕ) (few told : Told) (states : List (List ℕ)) (found looked lent : List FindingRead) (r : Report) → few ≡ kept script told
     → map finding_as found ≡ findings_of script few (states_for (lines_of script) states) → looked ≡ found → list_any (λ f. is_unmet f.judged) (map finding_as looked) ≡ false
-    → lent ≡ found → r ≡ report_by script few (map finding_as lent) → lines_of few ≡ kept script (lines_of trace) → are_timed script (lines_of trace) ≡ true
-    → r ≡ report script trace (states_for (lines_of script) states)
-kept_is_enough script few trace states found looked lent r is first h second made are timed =
-    enough script few trace (states_for (lines_of script) states) (map finding_as found) r is
+    → lent ≡ found → r ≡ report_by script few (map finding_as lent) → are_timed script told.events ≡ true → r ≡ report script told (states_for (lines_of script) states)
+kept_is_enough script few told states found looked lent r same is first h second made timed =
+    enough script told (states_for (lines_of script) states) (map finding_as found) r
+    (is ∙ ap (λ (t : Told). findings_of script t (states_for (lines_of script) states)) same)
     (ap (λ (fs : List FindingRead). list_any (λ (f : JudgedLine). is_unmet f.judged) (map finding_as fs)) (sym first) ∙ h)
-    (made ∙ ap (λ (fs : List FindingRead). report_by script few (map finding_as fs)) second) are timed
+    (made ∙ ap (λ (t : Told). report_by script t (map finding_as lent)) same ∙ ap (λ (fs : List FindingRead). report_by script (kept script told) (map finding_as fs)) second) timed

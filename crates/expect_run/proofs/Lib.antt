@@ -11,8 +11,7 @@ pub mod Cuts
 pub mod Refusals
 pub mod Shown
 pub mod Kept
-pub mod Sifted
-pub mod Keeping
 pub mod Timing
 pub mod Watching
 pub mod Grouping
+pub mod Sifting

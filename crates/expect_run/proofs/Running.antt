@@ -1,39 +1,33 @@
--- The trace by which a script is judged, with names or without.
-use Rattle.std.proofs.Common.{◌≡◌, ◌∙◌, Bool, true, false, List, ℕ, Ok, Err, IfOk, OnOk, Option, Result, subst, sym}
-use Rattle.std.specs.Io.KnownBytes.{Appends}
-use Rattle.expect_text.specs.Line.{plain_script}
-use Rattle.expect_text.specs.Names.{has_names}
-use Rattle.room_run.specs.HeldTrace.{IsHeldTraceOf}
-use Rattle.room_run.specs.Emulate.{IsTraceOf}
-use Rattle.room_run.specs.declared.emulate.EmulateError.{EmulateError}
-use Rattle.room_run.specs.declared.run.Totals.{Totals}
+-- What was heard of a run, and that its script has a trace.
+use Rattle.std.proofs.Common.{◌≡◌, Bool, List, ℕ, Ok, Option, Result, subst, sym}
+use Rattle.edid_core.specs.Root.{IsRoot}
+use Rattle.edid_core.specs.declared.edid.Edid.{Edid}
+use Rattle.room_net.specs.State.{NetState, first_net}
+use Rattle.room_script.specs.Script.{Course, IsScriptRead}
+use Rattle.room_script.specs.Topology.{Plan, topology_of}
+use Rattle.room_script.specs.declared.script.TimedEvent.{TimedEvent}
+use Rattle.room_run.specs.Happening.{Happening}
 use Rattle.room_run.specs.HasRun.{TextsHaveTraces}
+use Rattle.room_run.specs.Heard.{IsRunHeard}
+use Rattle.room_run.specs.Run.{start}
+use Rattle.room_run.specs.declared.run.Totals.{Totals}
+use Rattle.expect_told.specs.Turns.{IsHeardOf}
 use Rattle.expect_run.specs.States.{IsTraced}
-use Rattle.expect_run.specs.Check.{IsTraceBy, IsTraceFor}
 
-by : (b named : Bool) (topology plain : List ℕ) (old new : Option (List ℕ)) (result : Result Totals EmulateError) → b ≡ named
-    → IfOk result (λ totals. (text : List ℕ) × IsTraceBy b topology plain text totals × Appends old new text)
-    → IfOk result (λ totals. (text : List ℕ) × IsTraceBy named topology plain text totals × Appends old new text)
-by b named topology plain old new result same h =
-    subst (λ n. IfOk result (λ totals. (text : List ℕ) × IsTraceBy n topology plain text totals × Appends old new text)) same h
+pub heard_of : {R : Type 0} (hears : R → Happening → R → Type 0) (topology plain : List ℕ) (old new : R) (goes_on : Bool) (plan : Plan) (course : Course) (edid : Option Edid) (totals : Totals) (from net to : NetState) (events : List TimedEvent)
+    → topology_of topology ≡ Ok plan → IsScriptRead plan.tree plain (Ok course) → IsRoot plan.edid edid → from ≡ first_net plan.tree course.pulses → events ≡ course.events → net ≡ to
+    → IsRunHeard hears course.end (start from events) to totals old new goes_on → IsHeardOf hears topology plain old new net goes_on
+heard_of {R} hears topology plain old new goes_on plan course edid totals from net to events spelled read root first same is run = record {
+  plan = plan;
+  course = course;
+  edid = edid;
+  accepted = record { plan_is = spelled; course_is = read };
+  root = root;
+  totals = totals;
+  heard = subst (λ (s : NetState). IsRunHeard hears course.end (start (first_net plan.tree course.pulses) course.events) s totals old new goes_on) (sym is)
+      (subst (λ (es : List TimedEvent). IsRunHeard hears course.end (start (first_net plan.tree course.pulses) es) to totals old new goes_on) same
+      (subst (λ (s : NetState). IsRunHeard hears course.end (start s events) to totals old new goes_on) first run));
+}
 
-pub with_names : (topology script : List ℕ) (old new : Option (List ℕ)) (result : Result Totals EmulateError) (named : Bool) → named ≡ has_names script → named ≡ true
-    → IfOk result (λ totals. (text : List ℕ) × IsHeldTraceOf topology (plain_script script) text totals × Appends old new text)
-    → IfOk result (λ totals. (text : List ℕ) × IsTraceFor topology script text totals × Appends old new text)
-with_names topology script old new result named same is h = by true (has_names script) topology (plain_script script) old new result (sym is ∙ same) h
-
-pub without : (topology script : List ℕ) (old new : Option (List ℕ)) (result : Result Totals EmulateError) (named : Bool) → named ≡ has_names script → named ≡ false
-    → IfOk result (λ totals. (text : List ℕ) × IsTraceOf topology (plain_script script) text totals × Appends old new text)
-    → IfOk result (λ totals. (text : List ℕ) × IsTraceFor topology script text totals × Appends old new text)
-without topology script old new result named same is h = by false (has_names script) topology (plain_script script) old new result (sym is ∙ same) h
-
--- the plain script has a trace, too
-pub traced : (topology plain : List ℕ) (old new : Option (List ℕ)) (result : Result Totals EmulateError)
-    → IfOk result (λ totals. (text : List ℕ) × IsTraceOf topology plain text totals × Appends old new text) → OnOk result (IsTraced topology plain)
-traced topology plain old new (Ok totals) (text, trace, written) = (text, totals, trace)
-traced topology plain old new (Err error) h = tt
-
-pub held_traced : (topology plain : List ℕ) (old new : Option (List ℕ)) (result : Result Totals EmulateError) → TextsHaveTraces
-    → IfOk result (λ totals. (text : List ℕ) × IsHeldTraceOf topology plain text totals × Appends old new text) → OnOk result (IsTraced topology plain)
-held_traced topology plain old new (Ok totals) law (text, trace, written) = (law topology plain trace.plan trace.course trace.edid trace.accepted trace.root).0
-held_traced topology plain old new (Err error) law h = tt
+pub traced : {R : Type 0} (hears : R → Happening → R → Type 0) (topology plain : List ℕ) (old new : R) (net : NetState) (goes_on : Bool) → TextsHaveTraces → IsHeardOf hears topology plain old new net goes_on → IsTraced topology plain
+traced {R} hears topology plain old new net goes_on law run = (law topology plain run.plan run.course run.edid run.accepted run.root).0

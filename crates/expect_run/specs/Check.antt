@@ -1,13 +1,13 @@
--- What a check of a script answers: its report by the trace of the plain script's run.
+-- What a check of a script answers: its report by what is told of the plain script's run.
 use Rattle.std.specs.Prelude.{◌≡◌, ℕ, ◌<◌, not, Bool, true, false, List, length, filter, take, Option, Some, None, Result, Ok, Err}
 use Rattle.std.specs.Io.KnownBytes.{Appends}
 use Rattle.text_core.specs.Lines.{lines_of}
 use Rattle.expect_text.specs.Line.{plain_script}
 use Rattle.expect_text.specs.Faults.{first_fault}
-use Rattle.expect_text.specs.Names.{has_names}
-use Rattle.room_run.specs.HeldTrace.{IsHeldTraceOf}
 use Rattle.room_run.specs.Emulate.{IsTraceOf, IsReported}
 use Rattle.room_run.specs.declared.run.Totals.{Totals}
+use Rattle.expect_judge.specs.Told.{Told}
+use Rattle.expect_told.specs.Turns.{IsToldOf}
 use Rattle.expect_run.specs.States.{AreStates}
 use Rattle.expect_run.specs.Kept.{are_timed, kept}
 use Rattle.expect_run.specs.Report.{Report, report}
@@ -19,32 +19,26 @@ use Rattle.expect_run.specs.declared.checking.CheckError.TheVariants.{Emulate, E
 abbrev pub tally_of : List Bool → Tally
 tally_of verdicts = record { count = length verdicts; failed = length (filter not verdicts) }
 
--- The trace by which a script is judged, that of its plain script's run: where a pattern has names, the one that says who holds which
--- address.
-abbrev pub IsTraceBy : Bool → List ℕ → List ℕ → List ℕ → Totals → Type 0
-IsTraceBy false topology plain trace totals = IsTraceOf topology plain trace totals
-IsTraceBy true topology plain trace totals = IsHeldTraceOf topology plain trace totals
-
-abbrev pub IsTraceFor : List ℕ → List ℕ → List ℕ → Totals → Type 0
-IsTraceFor topology script trace totals = IsTraceBy (has_names script) topology (plain_script script) trace totals
-
--- the report of a script, by the trace of the run of its plain script on the topology, which is accepted and has no line at fault
+-- the report of a script, by what is told of the run of its plain script on the topology, which is accepted and has no line at fault
 pub record IsReportOf (topology script : List ℕ) (r : Report) : Type 0 where
-  pub trace : List ℕ
-  pub totals : Totals
-  pub run : IsTraceFor topology script trace totals
+  pub told : Told
+  pub run : IsToldOf topology script told
   pub accepted : first_fault topology script ≡ None
   pub states : List (List ℕ)
   pub states_are : AreStates topology (plain_script script) (lines_of script) states
-  pub report_is : r ≡ report script trace states
+  pub report_is : r ≡ report script told states
 
--- the lines of the plain script's run that a script needs, in which labelled events were applied about when the script has them
-pub record AreKept (topology script few : List ℕ) : Type 0 where
-  pub trace : List ℕ
-  pub totals : Totals
-  pub run : IsTraceFor topology script trace totals
-  pub lines_are : lines_of few ≡ kept script (lines_of trace)
-  pub timed : are_timed script (lines_of trace) ≡ true
+-- what a script needs of what is told of the plain script's run, in which labelled events were applied about when the script has them
+pub record IsKeptOf (topology script : List ℕ) (few : Told) : Type 0 where
+  pub told : Told
+  pub run : IsToldOf topology script told
+  pub few_is : few ≡ kept script told
+  pub timed : are_timed script told.events ≡ true
+
+-- the same of all that is told, or of what is needed
+abbrev pub IsHeardSo : Bool → List ℕ → List ℕ → Told → Type 0
+IsHeardSo true topology script told = IsToldOf topology script told
+IsHeardSo false topology script told = IsKeptOf topology script told
 
 -- the report is written
 abbrev pub IsChecked : List ℕ → List ℕ → Option (List ℕ) → Option (List ℕ) → Tally → Type 0

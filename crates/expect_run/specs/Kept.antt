@@ -1,7 +1,7 @@
--- What a report needs of a trace (own): the lines of events that a label names or that are refused, those of rounds that meet an
--- expectation as far as that is known before the run, and those of states. Where an expectation fails that no round meets, the rounds
--- in its window are shown, and the whole trace is needed.
-use Rattle.std.specs.Prelude.{ℕ, ◌+◌, ◌-◌, ◌^◌, ◌==◌, nat_le, min, ◌&&◌, ◌||◌, Bool, true, false, if◌then◌else◌, codes, filter, List, [], ◌∷◌, Option, Some, None, is_some, Result, Ok, Err}
+-- What a report needs of what is told of a run (own): the events that a label names or that are refused, and the rounds that meet an
+-- expectation as far as that is known before the run. Where an expectation fails that no round meets, the rounds in its window are
+-- shown, and all is needed.
+use Rattle.std.specs.Prelude.{ℕ, ◌+◌, ◌-◌, ◌^◌, ◌==◌, nat_le, min, ◌&&◌, ◌||◌, Bool, true, false, if◌then◌else◌, codes, filter, List, [], ◌∷◌, ◌++◌, Option, Some, None, is_some, Result, Ok, Err}
 use Rattle.std.specs.List.{filter_map, list_all, list_any}
 use Rattle.std.specs.Str.{bytes_eq}
 use Rattle.line_rounds.specs.Bounds.{longest_pulsed_round}
@@ -9,14 +9,14 @@ use Rattle.text_core.specs.Lines.{lines_of}
 use Rattle.text_core.specs.Number.{number_of}
 use Rattle.text_core.specs.Words.{words_of}
 use Rattle.expect_text.specs.Names.{meets}
-use Rattle.expect_text.specs.Line.{unlabelled_words, has_verb}
+use Rattle.expect_text.specs.Line.{unlabelled_words}
 use Rattle.expect_text.specs.Faults.{line_of_label}
 use Rattle.expect_text.specs.Form.{ExpectLine, ExpectWindow, form_in}
 use Rattle.expect_text.specs.Form.ExpectLine.{Other, Rounds, State, Refused, Unremarked}
 use Rattle.expect_text.specs.Form.ExpectWindow.{Within, From}
 use Rattle.text_core.specs.declared.at.AtWord.{AtWord}
 use Rattle.expect_text.specs.declared.form.ExpectCause.{ExpectCause}
-use Rattle.expect_judge.specs.Told.{EventLine, RoundLine, event_in, refusal_in, round_in}
+use Rattle.expect_judge.specs.Told.{EventLine, RoundLine, Told}
 use Rattle.expect_judge.specs.Named.{is_labelled, is_named}
 use Rattle.expect_judge.specs.Judged.{instant_at}
 use Rattle.expect_judge.specs.declared.judge.Judged.{Judged}
@@ -52,16 +52,11 @@ abbrev pub is_at : ℕ → Option ℕ → Bool
 is_at at None = true
 is_at at (Some time) = nat_le time at && nat_le at (time + longest_wait)
 
-abbrev pub is_timed : List ℕ → Option EventLine → Bool
-is_timed script None = true
-is_timed script (Some e) = is_at e.at (time_at script e.line)
+abbrev pub is_timed : List ℕ → EventLine → Bool
+is_timed script e = is_at e.at (time_at script e.line)
 
--- the event of a line of the trace was, where its line in the script has a label
-abbrev pub is_line_timed : List ℕ → List ℕ → Bool
-is_line_timed script line = is_timed script (event_in (words_of line))
-
-abbrev pub are_timed : List ℕ → List (List ℕ) → Bool
-are_timed script lines = list_all (is_line_timed script) lines
+abbrev pub are_timed : List ℕ → List EventLine → Bool
+are_timed script events = list_all (is_timed script) events
 
 -- ---- what is looked for
 
@@ -111,22 +106,25 @@ is_met r w = is_within w.span r && meets w.pattern r.reported
 
 -- ---- what is kept
 
--- a line of a round is needed where it meets one of these; of other lines those of states
-abbrev pub is_other_kept : List Watch → List (List ℕ) → Option RoundLine → Bool
-is_other_kept watches words None = has_verb (codes "state") words
-is_other_kept watches words (Some r) = list_any (is_met r) watches
+-- a round is needed where it meets one of these
+abbrev pub is_round_kept : List ℕ → RoundLine → Bool
+is_round_kept script r = list_any (is_met r) (watches_of script)
 
 -- an event of a line with a label, or one that is refused
-abbrev pub is_event_kept : List ℕ → Option EventLine → Bool
-is_event_kept script None = false
-is_event_kept script (Some e) = is_named script e.line || is_some (refusal_in e.outcome)
+abbrev pub is_event_kept : List ℕ → EventLine → Bool
+is_event_kept script e = is_named script e.line || is_some e.refused
 
--- by a script, a line of the trace is needed
-abbrev pub is_kept : List ℕ → List ℕ → Bool
-is_kept script line = is_event_kept script (event_in (words_of line)) || is_other_kept (watches_of script) (words_of line) (round_in (words_of line))
+abbrev pub kept : List ℕ → Told → Told
+kept script told = record { rounds = filter (is_round_kept script) told.rounds; events = filter (is_event_kept script) told.events }
 
-abbrev pub kept : List ℕ → List (List ℕ) → List (List ℕ)
-kept script lines = filter (is_kept script) lines
+-- one thing is told, and then another
+abbrev pub joined : Told → Told → Told
+joined t u = record { rounds = t.rounds ++ u.rounds; events = t.events ++ u.events }
+
+-- what is needed, or all
+abbrev pub kept_if : Bool → List ℕ → Told → Told
+kept_if true script told = told
+kept_if false script told = kept script told
 
 -- ---- whether that is enough
 

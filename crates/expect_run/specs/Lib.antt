@@ -2,6 +2,6 @@ pub mod Report
 pub mod States
 pub mod Kept
 pub mod Groups
-pub mod Sieve
+pub mod Sifted
 pub mod Cuts
 pub mod Check

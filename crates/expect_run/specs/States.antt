@@ -1,6 +1,8 @@
--- The states that a script speaks of (own): a device's line with which the run would end, had it ended at a time; and what is told of
--- the audit of the run's line.
-use Rattle.std.specs.Prelude.{◌≡◌, ℕ, true, false, List, [], ◌∷◌, Option, Some, None, Result, Ok, Err}
+-- The states that a script speaks of (own): a device's state at the end of the run, had it ended at a time, as its line says it; and
+-- what is told of the audit of the run's line.
+use Rattle.std.specs.List.{find}
+use Rattle.std.specs.Str.{bytes_eq}
+use Rattle.std.specs.Prelude.{◌≡◌, ℕ, ◌-◌, length, take, true, false, List, [], ◌∷◌, Option, Some, None, Result, Ok, Err}
 use Rattle.text_core.specs.Words.{words_of}
 use Rattle.expect_text.specs.Line.{unlabelled_words, cut_script}
 use Rattle.expect_text.specs.Form.{ExpectLine, form_in}
@@ -12,17 +14,30 @@ use Rattle.capture_forms.specs.Captures.{capture_in}
 use Rattle.capture_forms.specs.declared.form.CaptureForm.TheVariants.{Edges}
 use Rattle.expect_remarks.specs.Kept.{audit_remarks}
 use Rattle.expect_remarks.specs.Met.{remarks_met, shown_remarks}
+use Rattle.device_core.specs.State.{State as Device}
+use Rattle.room_trace.specs.StateText.{state_line}
 use Rattle.room_run.specs.Emulate.{IsEdgeTraceOf, IsTraceOf}
+use Rattle.room_run.specs.Happening.{Happening}
+use Rattle.room_run.specs.Run.{Config}
 use Rattle.room_run.specs.declared.run.Totals.{Totals}
-use Rattle.expect_judge.specs.Told.{state_line}
+use Rattle.expect_told.specs.Turns.{IsRunOf}
 use Rattle.expect_judge.specs.Judged.{is_of_state}
 
--- the device's state line in the trace of the plain script that ends at the time
+-- the first device of a name
+abbrev pub device_of : List ℕ → List Device → Option Device
+device_of name devices = find (λ d. bytes_eq d.name name) devices
+
+-- what the line of its state says, without its end; of no device, nothing
+abbrev pub state_said : Option Device → List ℕ
+state_said None = []
+state_said (Some d) = take (length (state_line d) - 1) (state_line d)
+
+-- the device's state at the end of the run of the plain script that ends at the time
 pub record IsStateAt (topology plain : List ℕ) (time : ℕ) (device state : List ℕ) : Type 0 where
-  pub trace : List ℕ
-  pub totals : Totals
-  pub run : IsTraceOf topology (cut_script time plain) trace totals
-  pub state_is : state ≡ state_line trace device
+  pub happened : List Happening
+  pub last : Config
+  pub run : IsRunOf topology (cut_script time plain) happened last
+  pub state_is : state ≡ state_said (device_of device last.net.devices)
 
 -- the first eight remarks of the audit that meet the pattern, of the line of the plain script's run, as its edges are read
 pub record IsRemarkedOf (topology plain : List ℕ) (pattern : Option (List ℕ)) (told : List ℕ) : Type 0 where

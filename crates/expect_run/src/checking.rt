@@ -5,17 +5,20 @@ ghost use Rattle.expect_text.specs.Line.{plain_script};
 ghost use Rattle.expect_text.specs.Faults.{first_fault};
 ghost use Rattle.expect_judge.specs.Judged.{states_for};
 ghost use Rattle.expect_run.specs.States.{AreStates, IsTraced};
-ghost use Rattle.expect_run.specs.Check.{AreKept, AreVerdictsOf, IsCheckCut, IsCheckReported, IsChecked, IsReportOf, IsVerdictReported, is_write, tally_of};
+ghost use Rattle.expect_run.specs.Check.{AreVerdictsOf, IsCheckCut, IsCheckReported, IsChecked, IsHeardSo, IsReportOf, IsVerdictReported, is_write, tally_of};
 ghost use Rattle.expect_run.specs.Report.{report_as};
+ghost use Rattle.expect_run.specs.Sifted.{told_kept};
 
-use crate::report::{ReportDraft, report_of_few, whole_report};
-use crate::run::emulate_for;
-use crate::sieve::{Patterns, Sieve};
+use crate::needs::Needs;
+use crate::plain::PlainScriptLines;
+use crate::report::{ReportDraft, report_of_few, report_of_told};
+use crate::run::run_told;
 use crate::states::all_states;
-use expect_text::{ExpectCause, Labels, fault_among};
+use crate::told::{KeptTold, RunTold};
+use expect_text::{ExpectCause, Labels, fault_among, has_names};
 use room_run::emulate::EmulateError;
 use std::alloc::Global;
-use text_core::{At, Held, Sink, put_all};
+use text_core::{At, Sink, put_all};
 use thiserror::Error;
 
 /// How many tests a report has.
@@ -68,78 +71,83 @@ pub fn tally_of(verdicts: &[bool]) -> Tally
     }
 }
 
-// The report of a script, by the whole trace of its run.
-#[tactic(auto, using(crate::proofs::Checked::reported, crate::proofs::Checked::reports))]
-fn report_by_trace(
+// Hears a script's run, and keeps of it what its report needs, or all. `None` where a labelled event was not applied about when the
+// script has it.
+fn hear_run(
     alloc: Global,
     topology: &[u8],
     script: &[u8],
-    states: &[Vec<u8>],
-) -> Result<ReportDraft, CheckError>
-    requires accepted { first_fault topology.now script.now ≡ None }
-    requires states { AreStates topology.now (plain_script script.now) (lines_of script.now) (states_for (lines_of script.now) (map (λ state. state.items) states.now)) }
-    ensures ok { IfOk result (λ draft. IsReportOf topology.now script.now (report_as draft)) }
-    ensures reported { IfErr result (IsVerdictReported topology.now script.now) }
-{
-    let mut trace = Held::new(alloc);
-    match emulate_for(alloc, topology, script, &mut trace) {
-        Ok(_) => {}
-        Err(EmulateError::Write(_)) => return Err(CheckError::Memory),
-        Err(error) => return Err(CheckError::Emulate(error)),
-    }
-    match whole_report(alloc, script, trace.bytes(), states) {
-        Ok(report) => Ok(report),
-        Err(_) => Err(CheckError::Memory),
-    }
-}
-
-// The lines of the trace of a script's run that its report needs, where these are enough as far as the run shows.
-#[tactic(auto, using(crate::proofs::Checked::kept_of_run))]
-fn few_of(alloc: Global, topology: &[u8], script: &[u8]) -> Result<Option<Vec<u8>>, CheckError>
+    all: bool,
+) -> Result<Option<KeptTold>, CheckError>
     ensures traced { OnOk result (IsTraced topology.now (plain_script script.now)) }
-    ensures kept { IfOk result (λ few. IfSome few (λ few. AreKept topology.now script.now few.items)) }
+    ensures kept { IfOk result (λ told. IfSome told (λ told. IsHeardSo all topology.now script.now (told_kept told))) }
     ensures reported { IfErr result (IsVerdictReported topology.now script.now) }
 {
-    let Ok(patterns) = Patterns::new(alloc, script) else {
+    let Ok(needs) = Needs::new(alloc, script) else {
         return Err(CheckError::Memory);
     };
-    let mut sieve = Sieve::new(alloc, patterns);
-    match emulate_for(alloc, topology, script, &mut sieve) {
+    let mut told = RunTold::new(alloc, needs, all, has_names(script));
+    match run_told(alloc, topology, &PlainScriptLines { script }, &mut told) {
         Ok(_) => {}
-        Err(EmulateError::Write(_)) => return Err(CheckError::Memory),
         Err(error) => return Err(CheckError::Emulate(error)),
     }
-    match sieve.few(script) {
-        Ok(few) => Ok(few),
-        Err(_) => Err(CheckError::Memory),
+    if told.late {
+        return Ok(None);
+    }
+    if told.lost {
+        return Err(CheckError::Memory);
+    }
+    let RunTold { rounds, events, .. } = told;
+    Ok(Some(KeptTold { rounds, events }))
+}
+
+// The report of a script, by all that is told of its run.
+#[tactic(auto, using(crate::proofs::Checked::reported))]
+fn report_by_all(
+    alloc: Global,
+    topology: &[u8],
+    labels: &Labels<'_>,
+    states: &[Vec<u8>],
+) -> Result<ReportDraft, CheckError>
+    requires accepted { first_fault topology.now labels.now.script.now ≡ None }
+    requires states { AreStates topology.now (plain_script labels.now.script.now) (lines_of labels.now.script.now) (states_for (lines_of labels.now.script.now) (map (λ state. state.items) states.now)) }
+    ensures ok { IfOk result (λ draft. IsReportOf topology.now labels.now.script.now (report_as draft)) }
+    ensures reported { IfErr result (IsVerdictReported topology.now labels.now.script.now) }
+{
+    match hear_run(alloc, topology, labels.script, true)? {
+        None => Err(CheckError::Memory),
+        Some(told) => match report_of_told(alloc, labels, &told, states) {
+            Ok(report) => Ok(report),
+            Err(_) => Err(CheckError::Memory),
+        },
     }
 }
 
-// The report of a script whose labels these are, by the lines that it needs of its trace. The run is made again where these are not
-// enough, or where a test failed whose window no round meets: then the first rounds in the window are shown.
+// The report of a script whose labels these are, by what it needs of its run. The run is made again where that is not enough, or where
+// a test failed whose window no round meets: then the first rounds in the window are shown.
 #[tactic(auto, using(crate::proofs::Checked::reported_few))]
 fn report_by_few(
     alloc: Global,
     topology: &[u8],
     labels: &Labels<'_>,
-    few: Option<Vec<u8>>,
+    few: Option<KeptTold>,
     states: &[Vec<u8>],
 ) -> Result<ReportDraft, CheckError>
-    requires kept { IfSome few (λ few. AreKept topology.now labels.now.script.now few.items) }
+    requires kept { IfSome few (λ few. IsHeardSo false topology.now labels.now.script.now (told_kept few)) }
     requires accepted { first_fault topology.now labels.now.script.now ≡ None }
     requires states { AreStates topology.now (plain_script labels.now.script.now) (lines_of labels.now.script.now) (states_for (lines_of labels.now.script.now) (map (λ state. state.items) states.now)) }
     ensures ok { IfOk result (λ draft. IsReportOf topology.now labels.now.script.now (report_as draft)) }
     ensures reported { IfErr result (IsVerdictReported topology.now labels.now.script.now) }
 {
     let Some(few) = few else {
-        return report_by_trace(alloc, topology, labels.script, states);
+        return report_by_all(alloc, topology, labels, states);
     };
     let Ok(report) = report_of_few(alloc, labels, &few, states) else {
         return Err(CheckError::Memory);
     };
     match report {
         Some(report) => Ok(report),
-        None => report_by_trace(alloc, topology, labels.script, states),
+        None => report_by_all(alloc, topology, labels, states),
     }
 }
 
@@ -149,7 +157,7 @@ fn report_of(alloc: Global, topology: &[u8], script: &[u8]) -> Result<ReportDraf
     ensures ok { IfOk result (λ draft. IsReportOf topology.now script.now (report_as draft)) }
     ensures reported { IfErr result (IsVerdictReported topology.now script.now) }
 {
-    let few = match few_of(alloc, topology, script) {
+    let few = match hear_run(alloc, topology, script, false) {
         Ok(few) => few,
         Err(error) => return Err(error),
     };
@@ -168,9 +176,9 @@ fn report_of(alloc: Global, topology: &[u8], script: &[u8]) -> Result<ReportDraf
 
 /// Runs a script without its labels and expectations on a topology, and writes the report of whether the run is as they have
 /// it, as the Test Anything Protocol has it: a line for each expectation, in order, and one for each refused event that none
-/// expects. Of the trace the lines of events that have a label or are refused, and of rounds that meet an expectation, are held in
-/// memory, by a wider window where it hangs from a label; all of it only where a test failed whose window no round meets. Where a
-/// pattern has names, each round of that trace says who holds which address.
+/// expects. Of the run the events that have a label or are refused, and the rounds that meet an expectation, are held in memory, by a
+/// wider window where it hangs from a label; all of them only where a test failed whose window no round meets. Where a pattern has
+/// names, each round says who holds which address.
 ///
 /// # Errors
 ///

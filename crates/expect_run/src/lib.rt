@@ -4,12 +4,13 @@
 mod checking;
 mod group;
 mod laws;
+mod needs;
 mod plain;
 mod report;
 mod run;
-mod sieve;
 mod states;
 mod times;
+mod told;
 mod watch;
 
 pub use checking::{CheckError, Tally, check, tally_of, verdicts};

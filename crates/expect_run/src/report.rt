@@ -1,4 +1,4 @@
-//! The report of a script's expectations, by the trace of its run.
+//! The report of a script's expectations, by what is told of its run.
 ghost use Rattle.std.specs.Prelude.{◌≡◌, ◌≤◌, true, not, ◌++◌, ◌==◌, codes, if◌then◌else◌, length, ℕ, List, OnOk, IfOk, IfSome, Some, map, take};
 ghost use Rattle.std.specs.List.{flat_map, list_all, list_any};
 ghost use Rattle.std.specs.Option.{option_map};
@@ -6,14 +6,16 @@ ghost use Rattle.text_core.specs.Held.{held_bytes};
 ghost use Rattle.text_core.specs.Piece.{piece_text};
 ghost use Rattle.text_core.specs.Lines.{lines_of};
 ghost use Rattle.expect_judge.specs.Judged.{finding_as, states_for};
-ghost use Rattle.expect_judge.specs.Index.{lines_among};
-ghost use Rattle.expect_judge.specs.Told.{event_as};
+ghost use Rattle.expect_judge.specs.Seen.{rounds_seen};
+ghost use Rattle.expect_judge.specs.Told.{Told as ToldSpec, event_as, round_as, told_as};
 ghost use Rattle.expect_run.specs.Kept.{are_timed, is_unmet, kept};
-ghost use Rattle.expect_run.specs.Report.{report_start, report_with_plan, escaped_text, bare_length, escaped_byte, is_holders, remarks, report, report_as, report_by, tests, tests_by, shown_text, shown_line, shown_round, span_remarks, verdict_word, with_event, with_findings, with_line, with_refusals, with_test, with_word};
+ghost use Rattle.expect_run.specs.Sifted.{told_kept};
+ghost use Rattle.expect_run.specs.Report.{report_start, report_with_plan, escaped_text, bare_length, complete_word, escaped_byte, is_holders, remarks, report, report_as, report_by, tests, tests_by, shown_text, shown_line, shown_round, span_remarks, verdict_word, with_event, with_findings, with_line, with_refusals, with_test, with_word};
 
+use crate::told::KeptTold;
 use expect_judge::{
-    EventLine, Expected, Judged, JudgedLine, RoundLine, RoundLines, TimeSpan, all_judged, event_in,
-    is_seen, refusal_in,
+    EventLine, Expected, Judged, JudgedLine, RoundLine, RoundLines, TimeSpan, Told, all_judged,
+    is_seen, rounds_kept,
 };
 use expect_text::{ExpectLine, Labels, form_in, unlabelled};
 use std::alloc::{AllocError, Global};
@@ -134,7 +136,7 @@ fn is_holders(text: &[u8]) -> bool
     }
 }
 
-// How long the line of a round is without such a word at its end.
+// How long what a round says is without such a word at its end.
 fn bare_length(line: &[u8]) -> usize
     ensures value { result ≡ bare_length line.now }
     ensures within { result ≤ length line.now }
@@ -151,13 +153,31 @@ fn bare_length(line: &[u8]) -> usize
     }
 }
 
+fn complete_word(is_complete: bool) -> &'static str
+    ensures { result.now ≡ complete_word is_complete }
+{
+    if is_complete { "complete " } else { "" }
+}
+
 // Appends the line of a round as the trace of `run` has it.
 #[tactic(auto, unfolding(crate::specs::Report::shown_round))]
-fn append_shown_round(out: &mut Held, line: &[u8]) -> Result<(), AllocError>
-    ensures { OnOk result (held_bytes out.new ≡ held_bytes out.old ++ shown_round line.now) }
+fn append_shown_round(out: &mut Held, round: &RoundLine) -> Result<(), AllocError>
+    ensures { OnOk result (held_bytes out.new ≡ held_bytes out.old ++ shown_round (round_as round.now)) }
 {
-    let (bare, _holders) = line.split_at(bare_length(line));
-    append_shown_line(out, bare)
+    let (bare, _holders) = round.reported.split_at(bare_length(round.reported));
+    append(
+        out,
+        &[
+            Piece::Text("# "),
+            Piece::Decimal(round.begin),
+            Piece::Text(" "),
+            Piece::Decimal(round.at),
+            Piece::Text(" "),
+            Piece::Text(complete_word(round.is_complete)),
+            Piece::Bytes(bare),
+            Piece::Text("\n"),
+        ],
+    )
 }
 
 // Appends the first eight lines of those of these rounds that are seen.
@@ -167,7 +187,7 @@ fn append_first(
     span: TimeSpan,
     pattern: &[u8],
 ) -> Result<(), AllocError>
-    ensures { OnOk result (held_bytes out.new ≡ held_bytes out.old ++ flat_map shown_round (take 8 (lines_among rounds.now span pattern.now))) }
+    ensures { OnOk result (held_bytes out.new ≡ held_bytes out.old ++ flat_map shown_round (take 8 (rounds_seen (map round_as rounds.now) span pattern.now))) }
 {
     let mut rest = rounds;
     let mut left = SHOWN_MOST;
@@ -176,7 +196,7 @@ fn append_first(
             return Ok(());
         }
         if is_seen(span, pattern, round) {
-            append_shown_round(out, round.line)?;
+            append_shown_round(out, round)?;
             left -= 1;
         }
         rest = others;
@@ -184,14 +204,14 @@ fn append_first(
     Ok(())
 }
 
-// Appends the first eight lines of rounds of a trace that are seen.
+// Appends the first eight lines of rounds that are seen.
 fn append_shown(
     out: &mut Held,
     rounds: &RoundLines<'_>,
     span: TimeSpan,
     pattern: &[u8],
 ) -> Result<(), AllocError>
-    ensures { OnOk result (held_bytes out.new ≡ held_bytes out.old ++ shown_text rounds.now.trace.now span pattern.now) }
+    ensures { OnOk result (held_bytes out.new ≡ held_bytes out.old ++ shown_text (map round_as rounds.now.rounds.now) span pattern.now) }
 {
     append_first(out, rounds.within(span), span, pattern)
 }
@@ -211,7 +231,7 @@ fn append_span(
     count: u64,
     span: Option<TimeSpan>,
 ) -> Result<(), AllocError>
-    ensures { OnOk result (held_bytes out.new ≡ held_bytes out.old ++ span_remarks rounds.now.trace.now pattern.now count span) }
+    ensures { OnOk result (held_bytes out.new ≡ held_bytes out.old ++ span_remarks (map round_as rounds.now.rounds.now) pattern.now count span) }
 {
     let Some(span) = span else {
         return append_bytes(out, b"# no instant\n");
@@ -249,7 +269,7 @@ fn append_remarks(
     judged: &Judged,
     line: &[u8],
 ) -> Result<(), AllocError>
-    ensures { OnOk result (held_bytes out.new ≡ held_bytes out.old ++ remarks rounds.now.trace.now state.now judged.now line.now) }
+    ensures { OnOk result (held_bytes out.new ≡ held_bytes out.old ++ remarks (map round_as rounds.now.rounds.now) state.now judged.now line.now) }
 {
     match form_in(unlabelled(line).rest) {
         Err(_) => Ok(()),
@@ -274,7 +294,7 @@ fn add_line(
     line: &[u8],
     judged: &Judged,
 ) -> Result<(), AllocError>
-    ensures { OnOk result (report_as draft.new ≡ with_line rounds.now.trace.now state.now (report_as draft.old) number line.now judged.now) }
+    ensures { OnOk result (report_as draft.new ≡ with_line (map round_as rounds.now.rounds.now) state.now (report_as draft.old) number line.now judged.now) }
 {
     let Some(holds) = judged.holds else {
         return Ok(());
@@ -293,7 +313,7 @@ fn add_lines(
     rounds: &RoundLines<'_>,
     found: &[JudgedLine<'_>],
 ) -> Result<(), AllocError>
-    ensures { OnOk result (report_as draft.new ≡ with_findings rounds.now.trace.now (report_as draft.old) 1 (lines_of script.now) (map finding_as found.now)) }
+    ensures { OnOk result (report_as draft.new ≡ with_findings (map round_as rounds.now.rounds.now) (report_as draft.old) 1 (lines_of script.now) (map finding_as found.now)) }
 {
     let mut rest = script;
     let mut left = found;
@@ -330,14 +350,11 @@ fn add_word(
 fn add_event(
     draft: &mut ReportDraft,
     expected: &Expected<'_>,
-    event: Option<EventLine>,
+    event: &EventLine,
 ) -> Result<(), AllocError>
-    ensures { OnOk result (report_as draft.new ≡ with_event expected.now.script.now (report_as draft.old) (option_map event_as event.entry)) }
+    ensures { OnOk result (report_as draft.new ≡ with_event expected.now.script.now (report_as draft.old) (event_as event.now)) }
 {
-    let Some(event) = event else {
-        return Ok(());
-    };
-    let Some(word) = refusal_in(event.outcome) else {
+    let Some(word) = event.refused else {
         return Ok(());
     };
     add_word(draft, expected, event.line, word)
@@ -347,14 +364,14 @@ fn add_event(
 fn add_refusals(
     draft: &mut ReportDraft,
     expected: &Expected<'_>,
-    trace: &[u8],
+    events: &[EventLine<'_>],
 ) -> Result<(), AllocError>
-    ensures { OnOk result (report_as draft.new ≡ with_refusals expected.now.script.now (report_as draft.old) (lines_of trace.now)) }
+    ensures { OnOk result (report_as draft.new ≡ with_refusals expected.now.script.now (report_as draft.old) (map event_as events.now)) }
 {
-    let mut rest = trace;
-    'lines: while let Some((line, after)) = first_line(rest) {
-        add_event(draft, expected, event_in(line))?;
-        rest = after;
+    let mut rest = events;
+    'events: while let [event, others @ ..] = rest {
+        add_event(draft, expected, event)?;
+        rest = others;
     }
     Ok(())
 }
@@ -408,16 +425,16 @@ fn is_any_unmet(found: &[JudgedLine<'_>]) -> bool
 fn tests_found(
     alloc: Global,
     labels: &Labels<'_>,
-    trace: &[u8],
+    told: &Told<'_>,
     found: &[JudgedLine<'_>],
 ) -> Result<ReportDraft, AllocError>
-    ensures { IfOk result (λ draft. report_as draft ≡ tests_by labels.now.script.now trace.now (map finding_as found.now)) }
+    ensures { IfOk result (λ draft. report_as draft ≡ tests_by labels.now.script.now (told_as told.now) (map finding_as found.now)) }
 {
     let expected = Expected::new(alloc, labels)?;
-    let rounds = RoundLines::new(alloc, trace)?;
+    let rounds = RoundLines::new(told.rounds);
     let mut draft = report_start(alloc)?;
     add_lines(&mut draft, labels.script, &rounds, found)?;
-    add_refusals(&mut draft, &expected, trace)?;
+    add_refusals(&mut draft, &expected, told.events)?;
     Ok(draft)
 }
 
@@ -425,61 +442,85 @@ fn tests_found(
 fn report_found(
     alloc: Global,
     labels: &Labels<'_>,
-    trace: &[u8],
+    told: &Told<'_>,
     found: &[JudgedLine<'_>],
 ) -> Result<ReportDraft, AllocError>
-    ensures { IfOk result (λ draft. report_as draft ≡ report_by labels.now.script.now trace.now (map finding_as found.now)) }
+    ensures { IfOk result (λ draft. report_as draft ≡ report_by labels.now.script.now (told_as told.now) (map finding_as found.now)) }
 {
-    let mut draft = tests_found(alloc, labels, trace, found)?;
+    let mut draft = tests_found(alloc, labels, told, found)?;
     add_plan(&mut draft)?;
     Ok(draft)
 }
 
-/// The report of a script without its last line, the count of tests, by the trace of its run and the state lines of the lines that
-/// speak of one, in order.
+/// The report of a script without its last line, the count of tests, by what is told of its run and the state lines of the lines
+/// that speak of one, in order.
 pub fn open_report(
     alloc: Global,
     script: &[u8],
-    trace: &[u8],
+    told: &Told<'_>,
     states: &[Vec<u8>],
 ) -> Result<ReportDraft, AllocError>
-    ensures { IfOk result (λ draft. report_as draft ≡ tests script.now trace.now (states_for (lines_of script.now) (map (λ state. state.items) states.now))) }
+    ensures { IfOk result (λ draft. report_as draft ≡ tests script.now (told_as told.now) (states_for (lines_of script.now) (map (λ state. state.items) states.now))) }
 {
     let labels = Labels::new(alloc, script)?;
-    let found = all_judged(alloc, &labels, trace, states)?;
-    let draft = tests_found(alloc, &labels, trace, &found)?;
+    let found = all_judged(alloc, &labels, told, states)?;
+    let draft = tests_found(alloc, &labels, told, &found)?;
     Ok(draft)
 }
 
-/// The report of a script, by the trace of its run and the state lines of the lines that speak of one, in order.
+/// The report of a script, by what is told of its run and the state lines of the lines that speak of one, in order.
 pub fn whole_report(
     alloc: Global,
     script: &[u8],
-    trace: &[u8],
+    told: &Told<'_>,
     states: &[Vec<u8>],
 ) -> Result<ReportDraft, AllocError>
-    ensures { IfOk result (λ draft. report_as draft ≡ report script.now trace.now (states_for (lines_of script.now) (map (λ state. state.items) states.now))) }
+    ensures { IfOk result (λ draft. report_as draft ≡ report script.now (told_as told.now) (states_for (lines_of script.now) (map (λ state. state.items) states.now))) }
 {
     let labels = Labels::new(alloc, script)?;
-    let found = all_judged(alloc, &labels, trace, states)?;
-    let draft = report_found(alloc, &labels, trace, &found)?;
+    let found = all_judged(alloc, &labels, told, states)?;
+    let draft = report_found(alloc, &labels, told, &found)?;
     Ok(draft)
 }
 
-/// The report of a script, by the lines that it needs of its trace. Where a test failed whose window no round meets, these are
-/// not enough.
+/// The report of a script, by what is kept of its run and the state lines of the lines that speak of one, in order.
+pub(crate) fn report_of_told(
+    alloc: Global,
+    labels: &Labels<'_>,
+    kept: &KeptTold,
+    states: &[Vec<u8>],
+) -> Result<ReportDraft, AllocError>
+    ensures { IfOk result (λ draft. report_as draft ≡ report labels.now.script.now (told_kept kept.now) (states_for (lines_of labels.now.script.now) (map (λ state. state.items) states.now))) }
+{
+    let rounds = rounds_kept(alloc, &kept.rounds)?;
+    let told = Told {
+        rounds: &rounds,
+        events: &kept.events,
+    };
+    let found = all_judged(alloc, labels, &told, states)?;
+    let draft = report_found(alloc, labels, &told, &found)?;
+    Ok(draft)
+}
+
+/// The same by what is needed of it. Where a test failed whose window no round meets, that is not enough.
 pub(crate) fn report_of_few(
     alloc: Global,
     labels: &Labels<'_>,
-    few: &[u8],
+    few: &KeptTold,
     states: &[Vec<u8>],
 ) -> Result<Option<ReportDraft>, AllocError>
-    ensures { IfOk result (λ made. IfSome made (λ draft. (trace : List ℕ) → lines_of few.now ≡ kept labels.now.script.now (lines_of trace) → are_timed labels.now.script.now (lines_of trace) ≡ true
-        → report_as draft ≡ report labels.now.script.now trace (states_for (lines_of labels.now.script.now) (map (λ state. state.items) states.now)))) }
+    ensures { IfOk result (λ made. IfSome made (λ draft. (told : ToldSpec) → told_kept few.now ≡ kept labels.now.script.now told → are_timed labels.now.script.now told.events ≡ true
+        → report_as draft ≡ report labels.now.script.now told (states_for (lines_of labels.now.script.now) (map (λ state. state.items) states.now)))) }
 {
-    let found = all_judged(alloc, labels, few, states)?;
+    let rounds = rounds_kept(alloc, &few.rounds)?;
+    let told = Told {
+        rounds: &rounds,
+        events: &few.events,
+    };
+    let found = all_judged(alloc, labels, &told, states)?;
     if is_any_unmet(&found) {
         return Ok(None);
     }
-    Ok(Some(report_found(alloc, labels, few, &found)?))
+    let draft = report_found(alloc, labels, &told, &found)?;
+    Ok(Some(draft))
 }

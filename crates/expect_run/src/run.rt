@@ -1,40 +1,43 @@
-//! The run by which a script is judged.
-ghost use Rattle.std.specs.Prelude.{◌≡◌, ℕ, List, IfErr, IfOk, OnOk};
-ghost use Rattle.std.specs.Io.KnownBytes.{Appends};
-ghost use Rattle.expect_text.specs.Line.{plain_script};
+//! A run, as a reporter hears of it.
+ghost use Rattle.std.specs.Prelude.{IfErr, IfOk, OnOk};
 ghost use Rattle.room_run.specs.Emulate.{IsReported};
-ghost use Rattle.expect_run.specs.Check.{IsTraceFor};
 ghost use Rattle.expect_run.specs.States.{IsTraced};
+ghost use Rattle.expect_told.specs.Turns.{IsHeardOf};
 
-use crate::plain::PlainScriptLines;
-use expect_text::has_names;
-use room_run::emulate::{EmulateError, emulate_from};
-use room_run::{Totals, emulate_held, texts_have_traces};
+use edid_core::root_on_heap;
+use line_wire::EdgeWire;
+use room_net::Net;
+use room_run::emulate::EmulateError;
+use room_run::{Reporter, ScriptSource, run_turns, texts_have_traces};
+use room_script::parse_topology;
 use std::alloc::Global;
-use text_core::Sink;
 
-/// Runs the plain script of a script, and writes the trace by which the script is judged.
+/// Runs the script that a source has on a topology, turn by turn, as long as the reporter wants to hear more. Returns the network
+/// as it is then.
 ///
 /// # Errors
 ///
-/// Those of [`emulate_from`].
-#[tactic(auto, using(crate::proofs::Running::with_names, crate::proofs::Running::without, crate::proofs::Running::traced, crate::proofs::Running::held_traced))]
-pub(crate) fn emulate_for<S: Sink>(
+/// Those of [`emulate`](room_run::emulate::emulate), but a failed write.
+// The network is large: where this stood inside its caller, the caller's frame would hold one for each kind of run.
+#[inline(never)]
+pub(crate) fn run_told<T: ScriptSource, R: Reporter>(
     alloc: Global,
     topology: &[u8],
-    script: &[u8],
-    out: &mut S,
-) -> Result<Totals, EmulateError>
-    ensures ok { IfOk result (λ totals. (text : List ℕ) × IsTraceFor topology.now script.now text totals × Appends (S.contents out.old) (S.contents out.new) text) }
-    ensures traced { OnOk result (IsTraced topology.now (plain_script script.now)) }
-    ensures reported { IfErr result (IsReported topology.now (plain_script script.now)) }
+    script: &T,
+    reporter: &mut R,
+) -> Result<Box<Net<EdgeWire>>, EmulateError>
+    ensures ok { IfOk result (λ net. IsHeardOf R.hears topology.now (T.text script.now) reporter.old reporter.new net.value (R.goes_on reporter.new)) }
+    ensures traced { OnOk result (IsTraced topology.now (T.text script.now)) }
+    ensures reported { IfErr result (IsReported topology.now (T.text script.now)) }
 {
-    // No effect at run time. The proof reads from it that the plain script has a trace.
+    // No effect at run time. The proof reads from it that the script has a trace.
     texts_have_traces();
-    let plain = PlainScriptLines { script };
-    if has_names(script) {
-        emulate_held(alloc, topology, &plain, out)
-    } else {
-        emulate_from(alloc, topology, &plain, out)
-    }
+    let topology = parse_topology(alloc, topology)?;
+    let script = script.parse(alloc, &topology)?;
+    let _edid = root_on_heap(alloc, &topology.edid)?;
+    let Ok(mut net) = Net::on_heap(alloc, topology.tree, &script.pulses) else {
+        return Err(EmulateError::Memory);
+    };
+    let _totals = run_turns(&mut net, &script.events, script.end, reporter);
+    Ok(net)
 }

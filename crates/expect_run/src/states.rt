@@ -8,21 +8,79 @@ ghost use Rattle.expect_text.specs.Line.{plain_script};
 ghost use Rattle.expect_judge.specs.Judged.{is_of_state, states_for};
 ghost use Rattle.expect_remarks.specs.Kept.{audit_remarks};
 ghost use Rattle.expect_remarks.specs.Met.{remarks_met, shown_remarks};
-ghost use Rattle.expect_run.specs.States.{AreStates, IsRemarkedOf, IsStateAt, IsStateRead, IsTraced};
+ghost use Rattle.expect_run.specs.States.{AreStates, IsRemarkedOf, IsStateAt, IsStateRead, IsTraced, device_of, state_said};
 
-use crate::sieve::{Patterns, Sieve};
+use crate::run::run_told;
 use capture_core::Capture;
 use capture_forms::{CaptureForm, read_capture};
-use expect_judge::{is_of_state, state_line};
+use device_core::Device;
+use expect_judge::is_of_state;
 use expect_remarks::{append_remarks, audit_remarks, remarks_met};
 use expect_text::{ExpectLine, cut_script, form_in, plain_script, unlabelled};
+use line_rounds::Outcome;
+use room_net::Net;
 use room_run::edges::emulate_edges;
-use room_run::emulate::{EmulateError, emulate};
+use room_run::emulate::EmulateError;
+use room_run::{AppliedEvent, Reporter, ScriptText};
 use room_script::one_script;
+use room_trace::write_state;
 use std::alloc::{AllocError, Global};
 use text_core::{Held, first_line};
 
-// The state line of a device at the end of a run of the plain script up to a time.
+/// What hears nothing of a run.
+#[derive(Clone, Copy)]
+struct Unheard;
+
+impl Reporter for Unheard {
+    ghost use Rattle.std.specs.Prelude.{true};
+
+    ghost hears = { λ r x s. Unit {0} };
+
+    ghost goes_on = { λ r. true };
+
+    fn event<W>(&mut self, _applied: &AppliedEvent<'_>, _net: &Net<W>) {}
+
+    fn round<W>(&mut self, _begin: u64, _outcome: &Outcome, _net: &Net<W>) {}
+
+    fn wants_more(&self) -> bool {
+        true
+    }
+}
+
+// The first device of a name.
+fn device_of<'a>(name: &[u8], devices: &'a [Device<16>]) -> Option<&'a Device<16>>
+    ensures { option_map (λ device. device.now) result ≡ device_of name.now devices.now }
+{
+    let mut rest = devices;
+    'devices: while let [device, others @ ..] = rest {
+        if device.name() == name {
+            return Some(device);
+        }
+        rest = others;
+    }
+    None
+}
+
+// What the line of a device's state says, without its end.
+fn state_said(alloc: Global, device: Option<&Device<16>>) -> Result<Vec<u8>, AllocError>
+    ensures { IfOk result (λ state. state.items ≡ state_said (option_map (λ device. device.now) device.entry)) }
+{
+    let mut state = Vec::new(alloc);
+    let Some(device) = device else {
+        return Ok(state);
+    };
+    let mut held = Held::new(alloc);
+    match write_state(&mut held, device) {
+        Ok(_) => {}
+        Err(_) => return Err(AllocError),
+    }
+    let line = held.bytes();
+    let (said, _end) = line.split_at(line.len().saturating_sub(1));
+    state.extend_from_slice(said)?;
+    Ok(state)
+}
+
+// What a device's state is at the end of a run of the plain script up to a time.
 fn state_at(
     alloc: Global,
     topology: &[u8],
@@ -37,9 +95,9 @@ fn state_at(
     // No effect at run time. The proof reads from it that the earlier script is read in one way.
     one_script();
     let cut = cut_script(alloc, time, plain)?;
-    let mut sieve = Sieve::new(alloc, Patterns::new(alloc, &[])?);
-    match emulate(alloc, topology, &cut, &mut sieve) {
-        Ok(_) => {}
+    let mut unheard = Unheard;
+    let net = match run_told(alloc, topology, &ScriptText { text: &cut }, &mut unheard) {
+        Ok(net) => net,
         Err(error) => match error {
             EmulateError::Topology { .. } => unreachable!(),
             EmulateError::Script { .. } => unreachable!(),
@@ -47,13 +105,8 @@ fn state_at(
             EmulateError::Write(_) => return Err(AllocError),
             EmulateError::Memory => return Err(AllocError),
         },
-    }
-    // Without a label no event is late.
-    let Some(few) = sieve.few(&[])? else {
-        return Err(AllocError);
     };
-    let mut state = Vec::new(alloc);
-    state.extend_from_slice(state_line(&few, device))?;
+    let state = state_said(alloc, device_of(device, net.devices()))?;
     Ok(state)
 }
 
@@ -72,7 +125,7 @@ fn told_of(alloc: Global, pattern: Option<&[u8]>, capture: &Capture) -> Result<V
 
 // What is told of the audit of the line of a run of the plain script.
 #[tactic(auto, using(crate::proofs::Remarked::remarked))]
-fn run_told(
+fn run_audited(
     alloc: Global,
     topology: &[u8],
     plain: &[u8],
@@ -108,7 +161,7 @@ fn state_for(
                 Ok(Some(state_at(alloc, topology, plain, time, device)?))
             }
             ExpectLine::Unremarked { pattern } => {
-                Ok(Some(run_told(alloc, topology, plain, pattern)?))
+                Ok(Some(run_audited(alloc, topology, plain, pattern)?))
             }
             ExpectLine::Other => Ok(None),
             ExpectLine::Rounds { .. } => Ok(None),

@@ -107,12 +107,9 @@ impl<'a> Times<'a> {
     }
 
     /// Whether an event was applied at the time of its line, or later by a wait, where that has a label.
-    pub(crate) fn have(&self, event: Option<EventLine<'_>>) -> bool
-        ensures { result ≡ is_timed self.now.script.now (option_map event_as event.entry) }
+    pub(crate) fn have(&self, event: &EventLine<'_>) -> bool
+        ensures { result ≡ is_timed self.now.script.now (event_as event.now) }
     {
-        match event {
-            None => true,
-            Some(event) => is_at(event.at, self.times.get(&event.line).copied()),
-        }
+        is_at(event.at, self.times.get(&event.line).copied())
     }
 }

@@ -1,6 +1,7 @@
 -- What is written of the readings of a capture as they end.
-use Rattle.std.proofs.Common.{◌≡◌, ℕ, Bool, true, false, ◌||◌, List, [], ◌∷◌, ◌++◌, Option, Some, None, Result, Ok, Err, take, drop, refl, sym, ap, ap₂, subst, ◌∙◌, append_assoc, append-nil, take-append-drop, length, option_map, arith}
+use Rattle.std.proofs.Common.{OnOk, ◌≡◌, ℕ, Bool, true, false, ◌||◌, List, [], ◌∷◌, ◌++◌, Option, Some, None, Result, Ok, Err, take, drop, refl, sym, ap, ap₂, subst, ◌∙◌, append_assoc, append-nil, take-append-drop, length, option_map, arith}
 use Rattle.std.specs.Option.{option_to_list}
+use Rattle.std.specs.declared.alloc.AllocError.{AllocError}
 use Rattle.std.specs.Io.KnownBytes.{Appends}
 use Rattle.std.proofs.lemmas.List.{append_cancel_right}
 use Rattle.std.proofs.lemmas.Grind.{flat_map-append}
@@ -16,7 +17,7 @@ use Rattle.audit_notes.specs.Lines.{AuditLine, has_remark, line_text, lines_text
 use Rattle.audit_notes.specs.Lines.AuditLine.{Reading as ReadingLine}
 use Rattle.audit_core.specs.Audit.{Tape, after, after_all, audit_lines, drive_of, first_tape, heard_all, heard_lines, lows_of, remark_lines, remarks_by, summary_lines, tape_after, tape_at, tape_by}
 use Rattle.audit_core.specs.declared.auditor.Auditor.{Auditor}
-use Rattle.follow_audit.specs.Listener.{HearsAll, IsAudited, IsFrontOf, PutsAll, PutsCut, PutsFront, PutsLast, Remarks, Says, SaysAllKnown, SaysEnd, SaysLast, SaysSome, TakesEdge, TellsTwo, WaitsForNothing, audit_text, line_of, remarks_of, settled_by, waiting_count, waits}
+use Rattle.follow_audit.specs.Listener.{HearsAll, IsAudited, IsFrontOf, PutsAll, PutsCut, PutsFront, PutsLast, Remarks, Says, SaysAllKnown, SaysEnd, SaysLast, SaysSome, TakesEdge, TakesEdges, TellsTwo, WaitsForNothing, audit_text, line_of, remarks_of, settled_by, waiting_count, waits}
 use Rattle.follow_audit.specs.Settled.{IsKnown, TwoWait, edges_of, is_settled, later}
 use Rattle.follow_audit.specs.declared.listener.Listener.{Listener}
 use Rattle.follow_audit.specs.declared.view.AuditView.{AuditView}
@@ -103,6 +104,24 @@ pub takes_next : (old mid new : Listener) (edge : Option Edge) (e : Edge) → ed
 takes_next old mid new edge e is first view waiting auditor from window =
     let next = takes_one mid new edge e is view waiting auditor from window in
     (view ∙ first.0, waiting ∙ first.1, λ edges left ended lines w. next.2 edges left ended lines (first.2 edges (option_to_list edge ++ left) ended lines w))
+
+-- edges one after another
+pub takes_edges : (old new : Listener) (edge : Option Edge) → TakesEdge old edge new → TakesEdges old (option_to_list edge) new
+takes_edges old new edge take = (take.0, take.2)
+
+pub takes_both : (old mid new : Listener) (xs ys : List Edge) → TakesEdges old xs mid → TakesEdges mid ys new → TakesEdges old (xs ++ ys) new
+takes_both old mid new xs ys one two = (
+  two.0 ∙ one.0,
+  λ all left ended lines w. two.1 all left ended lines (one.1 all (ys ++ left) ended lines (subst (λ (es : List Edge). IsAudited all old es ended lines) (append_assoc xs ys left) w)),
+)
+
+pub takes_maybe : (old mid new : Listener) (one two : Option Edge) (result : Result (Unit {0}) AllocError) → TakesEdge old one mid → OnOk result (TakesEdge mid two new) → OnOk result (TakesEdges old (option_to_list one ++ option_to_list two) new)
+takes_maybe old mid new one two (Ok done) first second = takes_both old mid new (option_to_list one) (option_to_list two) (takes_edges old mid one first) (takes_edges mid new two second)
+takes_maybe old mid new one two (Err error) first second = tt
+
+pub takes_so : (old mid new : Listener) (xs ys : List Edge) (result : Result (Unit {0}) AllocError) → TakesEdges old xs mid → OnOk result (TakesEdges mid ys new) → OnOk result (TakesEdges old (xs ++ ys) new)
+takes_so old mid new xs ys (Ok done) first second = takes_both old mid new xs ys first second
+takes_so old mid new xs ys (Err error) first second = tt
 
 -- ---- what waits
 
@@ -348,6 +367,9 @@ last_two {H} hears both {old} {mid} {new} {xs} {ys} {a} {b} {c} one two = record
       (subst (λ (z : List AuditLine). IsAudited edges new [] ((ended ++ xs) ++ ys) z) (append_assoc so_far one.lines two.lines)
       (two.audited edges (ended ++ xs) (so_far ++ one.lines) (one.audited edges ended so_far w)));
 }
+
+pub last_as : {H : Type 0} (hears : H → List AuditLine → H → Type 0) (old new : Listener) (a b : H) (xs ys : List Listed) → xs ≡ ys → SaysLast hears old xs new a b → SaysLast hears old ys new a b
+last_as hears old new a b xs ys same says = subst (λ (zs : List Listed). SaysLast hears old zs new a b) same says
 
 -- ---- fronts
 

@@ -6,7 +6,8 @@ use Rattle.std.proofs.lemmas.List.Elements.{All-append, All-cons, All-nil}
 use Rattle.text_core.specs.declared.buffered.Buffered.{Buffered}
 use Rattle.text_core.specs.Lines.{lines_of}
 use Rattle.text_core.specs.declared.at.At.{At}
-use Rattle.line_reading.specs.declared.times.Windows.{Windows}
+use Rattle.follow_core.specs.Follow.{received, received_of}
+use Rattle.follow_core.specs.declared.reception.Reception.{Reception}
 use Rattle.capture_core.specs.Edges.{Captured}
 use Rattle.capture_core.specs.declared.fault.Cause.{Cause}
 use Rattle.capture_forms.specs.Captures.{capture_in}
@@ -25,6 +26,7 @@ use Rattle.follow_audit.specs.declared.view.AuditView.{AuditView}
 use Rattle.audit_notes.specs.Lines.{AuditLine, has_remark, line_text, lines_text}
 use Rattle.audit_notes.specs.Hearing.{both_found}
 use Rattle.std.proofs.lemmas.Grind.{flat_map-append}
+use Rattle.follow_core.proofs.Followed.{made_whole}
 use Rattle.follow_audit.proofs.Followed.{followed_front, lines_again}
 
 -- ---- what was put is handed on
@@ -105,8 +107,8 @@ pub heard_stopped : (signal : List ℕ) (number : ℕ) (line : List ℕ) (old ne
 heard_stopped signal number line old new before mid after count h k = record {
   text = lines_text old.listener.view.written h.heard;
   put = Appends-kept before mid after (lines_text old.listener.view.written h.heard) h.put k;
-  front = λ form win view past so_far w rest c left read.
-      let f = followed_front form signal win view (past ++ line ∷ []) (number + 1) new (so_far ++ h.heard) (h.followed form win view past so_far w) rest c left read in
+  front = λ form how view past so_far w rest c left read.
+      let f = followed_front form signal how view (past ++ line ∷ []) (number + 1) new (so_far ++ h.heard) (h.followed form how view past so_far w) rest c left read in
       (f.0, f.1 ∙ ap (λ t. t ++ f.0) (text_of_both old view so_far h.heard w.viewed));
 }
 
@@ -159,11 +161,11 @@ pub end_stopped : (number : ℕ) (f : AuditFollower) (before mid after : Option 
 end_stopped number f before mid after is count h k = record {
   text = lines_text f.listener.view.written h.heard;
   put = Appends-kept before mid after (lines_text f.listener.view.written h.heard) h.put k;
-  front = λ form signal win view past so_far w rest c none read.
-      let whole = h.all form signal win view past so_far w in
-      let same = same_capture (lines_captured form signal past) whole.capture c whole.read (ap (lines_captured form signal) (sym (append-nil past) ∙ ap (λ ls. past ++ ls) (sym none)) ∙ read) in
+  front = λ form signal how view past so_far w rest c none read.
+      let whole = h.all form signal how view past so_far w in
+      let same = same_capture (received_of how form signal past) whole.capture c whole.read (ap (received_of how form signal) (sym (append-nil past) ∙ ap (λ ls. past ++ ls) (sym none)) ∙ read) in
       let text = lines_text view.written so_far ++ lines_text f.listener.view.written h.heard in
-      ([], ap (text_of view win) (sym same) ∙ ap (lines_text view.written) whole.all ∙ text_of_both f view so_far h.heard w.viewed ∙ sym (append-nil text));
+      ([], ap (text_of view how.windows) (sym same) ∙ ap (lines_text view.written) whole.all ∙ text_of_both f view so_far h.heard w.viewed ∙ sym (append-nil text));
 }
 
 -- ---- an input
@@ -181,13 +183,13 @@ pub next_end : (old new : Option (List ℕ)) (line : List ℕ) (more : Bool) →
 next_end old new line true is h = cc
 next_end old new line false is h = h
 
-pub record Going (form : LineForm) (signal : List ℕ) (win : Windows) (view : AuditView) (known now before after : Option (List ℕ)) (f : AuditFollower) (number : ℕ) : Type 0 where
+pub record Going (form : LineForm) (signal : List ℕ) (how : Reception) (view : AuditView) (known now before after : Option (List ℕ)) (f : AuditFollower) (number : ℕ) : Type 0 where
   pub past : List (List ℕ)
   pub count : number ≡ length past + 1
   pub heard : List AuditLine
   pub come : Come known now past
   pub whole : All IsWhole past
-  pub followed : IsFollowed form signal win view past number f heard
+  pub followed : IsFollowed form signal how view past number f heard
   pub prompt : IsPrompt f
   pub ready : IsReady f
   pub put : Appends before after (lines_text view.written heard)
@@ -200,9 +202,9 @@ come_none : (known : Option (List ℕ)) → Come known known []
 come_none None = tt
 come_none (Some xs) = refl
 
-pub going_first : (form : LineForm) (signal : List ℕ) (win : Windows) (view : AuditView) (known before : Option (List ℕ)) (left : List ℕ) (f : AuditFollower) → left ≡ [] → IsFollowed form signal win view [] 1 f [] → IsPrompt f → IsReady f
-    → Going form signal win view known (prepend_known left known) before before f 1
-going_first form signal win view known before left f none w prompt ready = record {
+pub going_first : (form : LineForm) (signal : List ℕ) (how : Reception) (view : AuditView) (known before : Option (List ℕ)) (left : List ℕ) (f : AuditFollower) → left ≡ [] → IsFollowed form signal how view [] 1 f [] → IsPrompt f → IsReady f
+    → Going form signal how view known (prepend_known left known) before before f 1
+going_first form signal how view known before left f none w prompt ready = record {
   past = [];
   count = refl;
   heard = [];
@@ -225,15 +227,15 @@ count_more past line number count =
     let more : length (past ++ line ∷ []) ≡ length past + 1 = length-append past (line ∷ []) in
     omega (arith, more, count)
 
-pub going_more : (form : LineForm) (signal : List ℕ) (win : Windows) (view : AuditView) (known now next before mid after : Option (List ℕ)) (old new : AuditFollower) (number : ℕ) (line : List ℕ) → Going form signal win view known now before mid old number → IsWhole line
-    → Leads now next line → HasHeard signal number line old new mid after → IsReady new → Going form signal win view known next before after new (number + 1)
-going_more form signal win view known now next before mid after old new number line g whole leads h ready = record {
+pub going_more : (form : LineForm) (signal : List ℕ) (how : Reception) (view : AuditView) (known now next before mid after : Option (List ℕ)) (old new : AuditFollower) (number : ℕ) (line : List ℕ) → Going form signal how view known now before mid old number → IsWhole line
+    → Leads now next line → HasHeard signal number line old new mid after → IsReady new → Going form signal how view known next before after new (number + 1)
+going_more form signal how view known now next before mid after old new number line g whole leads h ready = record {
   past = g.past ++ line ∷ [];
   count = count_more g.past line number g.count;
   heard = g.heard ++ h.heard;
   come = come_more known now next g.past line g.come leads;
   whole = All-append IsWhole g.past (line ∷ []) g.whole (All-cons IsWhole line [] whole (All-nil IsWhole));
-  followed = h.followed form win view g.past g.heard g.followed;
+  followed = h.followed form how view g.past g.heard g.followed;
   prompt = h.prompt;
   ready = ready;
   put = put_more old view before mid after g.heard h.heard g.followed.viewed g.put h.put;
@@ -263,14 +265,14 @@ came_whole (Some xs) None past a end = absurd a
 came_whole (Some xs) (Some ys) past a end = ([], a ∙ ap (λ t. past ++ lines_of t) end, refl)
 
 -- all is written that they say
-up_to_date : (form : LineForm) (signal : List ℕ) (win : Windows) (view : AuditView) (known now before mid after : Option (List ℕ)) (f : AuditFollower) (number : ℕ) → (g : Going form signal win view known now before mid f number) → Appends mid after []
-    → IsUpToDate form signal win view g.past before after
-up_to_date form signal win view known now before mid after f number g none = record {
+up_to_date : (form : LineForm) (signal : List ℕ) (how : Reception) (view : AuditView) (known now before mid after : Option (List ℕ)) (f : AuditFollower) (number : ℕ) → (g : Going form signal how view known now before mid f number) → Appends mid after []
+    → IsUpToDate form signal how view g.past before after
+up_to_date form signal how view known now before mid after f number g none = record {
   follower = f;
   heard = g.heard;
-  followed = subst (λ n. IsFollowed form signal win view g.past n f g.heard) g.count g.followed;
+  followed = subst (λ n. IsFollowed form signal how view g.past n f g.heard) g.count g.followed;
   prompt = g.prompt;
-  front = followed_front form signal win view g.past number f g.heard g.followed;
+  front = followed_front form signal how view g.past number f g.heard g.followed;
   put = subst (λ t. Appends before after t) (append-nil (lines_text view.written g.heard)) (Appends-trans before mid after (lines_text view.written g.heard) [] g.put none);
 }
 
@@ -299,73 +301,73 @@ refused_end form signal (Some xs) (Some ys) past fault a end refused =
     by_lines form signal xs ∙ ap (lines_captured form signal) (a ∙ ap (λ t. past ++ lines_of t) end ∙ append-nil past) ∙ refused
 
 -- a line that stops it
-abbrev line_begun : (form : LineForm) (signal : List ℕ) (win : Windows) (view : AuditView) (known now next before mid after : Option (List ℕ)) (old : AuditFollower) (number : ℕ) (line : List ℕ) → Going form signal win view known now before mid old number
-    → Leads now next line → HasStopped signal number line old mid after → HasBegun form signal win view known before after
-line_begun form signal win view known now next before mid after old number line g leads h = record {
+abbrev line_begun : (form : LineForm) (signal : List ℕ) (how : Reception) (view : AuditView) (known now next before mid after : Option (List ℕ)) (old : AuditFollower) (number : ℕ) (line : List ℕ) → Going form signal how view known now before mid old number
+    → Leads now next line → HasStopped signal number line old mid after → HasBegun form signal how view known before after
+line_begun form signal how view known now next before mid after old number line g leads h = record {
   past = g.past ++ line ∷ [];
   more = true;
   came = came_some known next (g.past ++ line ∷ []) (come_more known now next g.past line g.come leads);
   text = lines_text view.written g.heard ++ h.text;
-  front = h.front form win view g.past g.heard g.followed;
+  front = h.front form how view g.past g.heard g.followed;
   put = Appends-trans before mid after (lines_text view.written g.heard) h.text g.put h.put;
 }
 
-pub line_stops : (form : LineForm) (signal : List ℕ) (win : Windows) (view : AuditView) (known now next before mid after : Option (List ℕ)) (old new : AuditFollower) (number : ℕ) (line : List ℕ) (error : FollowAuditError)
-    → Going form signal win view known now before mid old number → Leads now next line → Hears signal number line old new mid after (Err error) → Follows form signal win view known before after (Err error)
-line_stops form signal win view known now next before mid after old new number line (Capture fault) g leads h = record {
+pub line_stops : (form : LineForm) (signal : List ℕ) (how : Reception) (view : AuditView) (known now next before mid after : Option (List ℕ)) (old new : AuditFollower) (number : ℕ) (line : List ℕ) (error : FollowAuditError)
+    → Going form signal how view known now before mid old number → Leads now next line → Hears signal number line old new mid after (Err error) → Follows form signal how view known before after (Err error)
+line_stops form signal how view known now next before mid after old new number line (Capture fault) g leads h = record {
   past = g.past;
   next = Some line;
   came = came_first known next (g.past ++ line ∷ []) (come_more known now next g.past line g.come leads);
   place = h.place ∙ g.count;
-  refused = h.refused form win view g.past g.heard g.followed;
-  read = refused_line form signal known now next g.past line fault g.come leads (h.refused form win view g.past g.heard g.followed);
-  written = up_to_date form signal win view known now before mid after old number g h.put;
+  refused = h.refused form how view g.past g.heard g.followed;
+  read = refused_line form signal known now next g.past line fault g.come leads (h.refused form how view g.past g.heard g.followed);
+  written = up_to_date form signal how view known now before mid after old number g h.put;
 }
-line_stops form signal win view known now next before mid after old new number line (Write count) g leads h = line_begun form signal win view known now next before mid after old number line g leads h
-line_stops form signal win view known now next before mid after old new number line Waiting g leads h =
+line_stops form signal how view known now next before mid after old new number line (Write count) g leads h = line_begun form signal how view known now next before mid after old number line g leads h
+line_stops form signal how view known now next before mid after old new number line Waiting g leads h =
     record {
-      begun = line_begun form signal win view known now next before mid after old number line g leads h.0;
-      two = let two = h.1 form win view g.past g.heard g.followed in subst (λ n. BeginsWithTwo form signal win (g.past ++ line ∷ []) n) (count_more g.past line number g.count) two;
+      begun = line_begun form signal how view known now next before mid after old number line g leads h.0;
+      two = let two = h.1 form how view g.past g.heard g.followed in subst (λ n. BeginsWithTwo form signal how (g.past ++ line ∷ []) n) (count_more g.past line number g.count) two;
     }
-line_stops form signal win view known now next before mid after old new number line Memory g leads h = line_begun form signal win view known now next before mid after old number line g leads h
-line_stops form signal win view known now next before mid after old new number line Read g leads h = absurd h
-line_stops form signal win view known now next before mid after old new number line TooLong g leads h = absurd h
+line_stops form signal how view known now next before mid after old new number line Memory g leads h = line_begun form signal how view known now next before mid after old number line g leads h
+line_stops form signal how view known now next before mid after old new number line Read g leads h = absurd h
+line_stops form signal how view known now next before mid after old new number line TooLong g leads h = absurd h
 
 -- nothing more is read
-reading_stops : (form : LineForm) (signal : List ℕ) (win : Windows) (view : AuditView) (known now before after : Option (List ℕ)) (f : AuditFollower) (number : ℕ) → Going form signal win view known now before after f number
-    → Follows form signal win view known before after (Err Read)
-reading_stops form signal win view known now before after f number g = record {
+reading_stops : (form : LineForm) (signal : List ℕ) (how : Reception) (view : AuditView) (known now before after : Option (List ℕ)) (f : AuditFollower) (number : ℕ) → Going form signal how view known now before after f number
+    → Follows form signal how view known before after (Err Read)
+reading_stops form signal how view known now before after f number g = record {
   past = g.past;
   came = came_first known now g.past g.come;
-  written = up_to_date form signal win view known now before after after f number g (Appends-nil after);
+  written = up_to_date form signal how view known now before after after f number g (Appends-nil after);
 }
 
 -- a line is too long
-length_stops : (too_long : LongLinesAreTooMuch) (form : LineForm) (signal : List ℕ) (win : Windows) (view : AuditView) (known now next before after : Option (List ℕ)) (f : AuditFollower) (number : ℕ) (line : List ℕ)
-    → Going form signal win view known now before after f number → IsNext now next line (Err line_fault.TooLong) → Follows form signal win view known before after (Err TooLong)
-length_stops too_long form signal win view known now next before after f number line g h = record {
+length_stops : (too_long : LongLinesAreTooMuch) (form : LineForm) (signal : List ℕ) (how : Reception) (view : AuditView) (known now next before after : Option (List ℕ)) (f : AuditFollower) (number : ℕ) (line : List ℕ)
+    → Going form signal how view known now before after f number → IsNext now next line (Err line_fault.TooLong) → Follows form signal how view known before after (Err TooLong)
+length_stops too_long form signal how view known now next before after f number line g h = record {
   past = g.past;
   over = too_long known now next g.past line g.come h;
-  written = up_to_date form signal win view known now before after after f number g (Appends-nil after);
+  written = up_to_date form signal how view known now before after after f number g (Appends-nil after);
 }
 
 -- no line could be read
-pub line_fails : (too_long : LongLinesAreTooMuch) (form : LineForm) (signal : List ℕ) (win : Windows) (view : AuditView) (known now next before after : Option (List ℕ)) (f : AuditFollower) (number : ℕ) (line : List ℕ) (fault : IncomingFault)
-    → Going form signal win view known now before after f number → IsNext now next line (Err fault) → Follows form signal win view known before after (Err (line_error fault))
-line_fails too_long form signal win view known now next before after f number line line_fault.Read g h = reading_stops form signal win view known now before after f number g
-line_fails too_long form signal win view known now next before after f number line line_fault.TooLong g h = length_stops too_long form signal win view known now next before after f number line g h
+pub line_fails : (too_long : LongLinesAreTooMuch) (form : LineForm) (signal : List ℕ) (how : Reception) (view : AuditView) (known now next before after : Option (List ℕ)) (f : AuditFollower) (number : ℕ) (line : List ℕ) (fault : IncomingFault)
+    → Going form signal how view known now before after f number → IsNext now next line (Err fault) → Follows form signal how view known before after (Err (line_error fault))
+line_fails too_long form signal how view known now next before after f number line line_fault.Read g h = reading_stops form signal how view known now before after f number g
+line_fails too_long form signal how view known now next before after f number line line_fault.TooLong g h = length_stops too_long form signal how view known now next before after f number line g h
 
 pub line_handed : (fault : IncomingFault) (error : FollowAuditError) (pending : List ℕ) → error ≡ line_error fault → pending ≡ [] → IsHandedOn error pending
 line_handed line_fault.Read error pending is none = subst (λ (e : FollowAuditError). IsHandedOn e pending) (sym is) none
 line_handed line_fault.TooLong error pending is none = subst (λ (e : FollowAuditError). IsHandedOn e pending) (sym is) none
 
 -- as many lines as are counted
-pub lines_run_out : (form : LineForm) (signal : List ℕ) (win : Windows) (view : AuditView) (known now before after : Option (List ℕ)) (f : AuditFollower) (number : ℕ) → Going form signal win view known now before after f number
-    → number ≡ 18446744073709551615 + 1 → Follows form signal win view known before after (Err TooLong)
-lines_run_out form signal win view known now before after f number g last = record {
+pub lines_run_out : (form : LineForm) (signal : List ℕ) (how : Reception) (view : AuditView) (known now before after : Option (List ℕ)) (f : AuditFollower) (number : ℕ) → Going form signal how view known now before after f number
+    → number ≡ 18446744073709551615 + 1 → Follows form signal how view known before after (Err TooLong)
+lines_run_out form signal how view known now before after f number g last = record {
   past = g.past;
   over = inr (let count = g.count in omega (arith, count, last), came_first known now g.past g.come);
-  written = up_to_date form signal win view known now before after after f number g (Appends-nil after);
+  written = up_to_date form signal how view known now before after after f number g (Appends-nil after);
 }
 
 -- no line is left
@@ -375,41 +377,42 @@ input_of form None now past a whole end = (text_of_lines past, tt, lines_again p
 input_of form (Some xs) None past a whole end = absurd a
 input_of form (Some xs) (Some ys) past a whole end = (xs, refl, a ∙ ap (λ t. past ++ lines_of t) end ∙ append-nil past)
 
-end_begun : (form : LineForm) (signal : List ℕ) (win : Windows) (view : AuditView) (known now before mid after : Option (List ℕ)) (f : AuditFollower) (number : ℕ) → Going form signal win view known now before mid f number → IsAtEnd now
-    → HasCut number f mid after → HasBegun form signal win view known before after
-end_begun form signal win view known now before mid after f number g end h = record {
+end_begun : (form : LineForm) (signal : List ℕ) (how : Reception) (view : AuditView) (known now before mid after : Option (List ℕ)) (f : AuditFollower) (number : ℕ) → Going form signal how view known now before mid f number → IsAtEnd now
+    → HasCut number f mid after → HasBegun form signal how view known before after
+end_begun form signal how view known now before mid after f number g end h = record {
   past = g.past;
   more = false;
   came = came_whole known now g.past g.come end;
   text = lines_text view.written g.heard ++ h.text;
-  front = h.front form signal win view g.past g.heard g.followed;
+  front = h.front form signal how view g.past g.heard g.followed;
   put = Appends-trans before mid after (lines_text view.written g.heard) h.text g.put h.put;
 }
 
-pub end_stops : (form : LineForm) (signal : List ℕ) (win : Windows) (view : AuditView) (known now before mid after : Option (List ℕ)) (f : AuditFollower) (number : ℕ) (result : Result Bool FollowAuditError)
-    → Going form signal win view known now before mid f number → IsAtEnd now → Ends number f mid after result → Follows form signal win view known before after result
-end_stops form signal win view known now before mid after f number (Ok is) g end h =
-    let all = h.all form signal win view g.past g.heard g.followed in
+pub end_stops : (form : LineForm) (signal : List ℕ) (how : Reception) (view : AuditView) (known now before mid after : Option (List ℕ)) (f : AuditFollower) (number : ℕ) (result : Result Bool FollowAuditError)
+    → Going form signal how view known now before mid f number → IsAtEnd now → Ends number f mid after result → Follows form signal how view known before after result
+end_stops form signal how view known now before mid after f number (Ok is) g end h =
+    let all = h.all form signal how view g.past g.heard g.followed in
     let input = input_of form known now g.past g.come g.whole end in
+    let raw = made_whole how (lines_captured form signal g.past) all.capture all.read in
     record {
       input = input.0;
       all = input.1;
-      capture = all.capture;
-      read = by_lines form signal input.0 ∙ ap (lines_captured form signal) input.2 ∙ all.read;
-      put = subst (λ (ls : List AuditLine). Appends before after (lines_text view.written ls)) (sym all.all) (put_more f view before mid after g.heard h.heard g.followed.viewed g.put h.put);
-      noted = both_found false f.remarked is g.heard h.heard g.followed.noted h.noted ∙ ap has_remark (sym all.all);
+      capture = raw.0;
+      read = by_lines form signal input.0 ∙ ap (lines_captured form signal) input.2 ∙ raw.1;
+      put = subst (λ (ls : List AuditLine). Appends before after (lines_text view.written ls)) (sym all.all ∙ ap (lines_in view how.windows) raw.2) (put_more f view before mid after g.heard h.heard g.followed.viewed g.put h.put);
+      noted = both_found false f.remarked is g.heard h.heard g.followed.noted h.noted ∙ ap has_remark (sym all.all ∙ ap (lines_in view how.windows) raw.2);
     }
-end_stops form signal win view known now before mid after f number (Err (Capture fault)) g end h = record {
+end_stops form signal how view known now before mid after f number (Err (Capture fault)) g end h = record {
   past = g.past;
   next = None;
   came = came_all known now g.past g.come end;
   place = h.place ∙ g.count;
-  refused = h.refused form signal win view g.past g.heard g.followed;
-  read = refused_end form signal known now g.past fault g.come end (h.refused form signal win view g.past g.heard g.followed);
-  written = up_to_date form signal win view known now before mid after f number g h.put;
+  refused = h.refused form signal how view g.past g.heard g.followed;
+  read = refused_end form signal known now g.past fault g.come end (h.refused form signal how view g.past g.heard g.followed);
+  written = up_to_date form signal how view known now before mid after f number g h.put;
 }
-end_stops form signal win view known now before mid after f number (Err (Write count)) g end h = end_begun form signal win view known now before mid after f number g end h
-end_stops form signal win view known now before mid after f number (Err Waiting) g end h = absurd h
-end_stops form signal win view known now before mid after f number (Err Memory) g end h = end_begun form signal win view known now before mid after f number g end h
-end_stops form signal win view known now before mid after f number (Err Read) g end h = absurd h
-end_stops form signal win view known now before mid after f number (Err TooLong) g end h = absurd h
+end_stops form signal how view known now before mid after f number (Err (Write count)) g end h = end_begun form signal how view known now before mid after f number g end h
+end_stops form signal how view known now before mid after f number (Err Waiting) g end h = absurd h
+end_stops form signal how view known now before mid after f number (Err Memory) g end h = end_begun form signal how view known now before mid after f number g end h
+end_stops form signal how view known now before mid after f number (Err Read) g end h = absurd h
+end_stops form signal how view known now before mid after f number (Err TooLong) g end h = absurd h

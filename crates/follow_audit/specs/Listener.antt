@@ -45,6 +45,10 @@ abbrev pub TakesEdge : Listener → Option Edge → Listener → Type 0
 TakesEdge old edge new = (new.view ≡ old.view) × (new.waiting ≡ old.waiting) × ((edges left : List Edge) (ended : List Listed) (lines : List AuditLine)
     → IsAudited edges old (option_to_list edge ++ left) ended lines → IsAudited edges new left ended lines)
 
+-- edges are kept
+abbrev pub TakesEdges : Listener → List Edge → Listener → Type 0
+TakesEdges old edges new = (new.view ≡ old.view) × ((all left : List Edge) (ended : List Listed) (lines : List AuditLine) → IsAudited all old (edges ++ left) ended lines → IsAudited all new left ended lines)
+
 -- what there is to remark of what waits, by the edges that have come
 abbrev pub remarks_for : Listener → Option Listed → List AuditLine
 remarks_for a None = []

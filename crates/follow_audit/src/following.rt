@@ -9,8 +9,7 @@ use crate::error::FollowAuditError;
 use crate::follower::AuditFollower;
 use crate::view::AuditView;
 use arrayvec::ArrayVec;
-use follow_core::{LineForm, long_lines_are_too_much};
-use line_reading::Windows;
+use follow_core::{LineForm, Reception, long_lines_are_too_much};
 use live_incoming::{IncomingFault, Lines};
 use std::alloc::Global;
 use std::io::Read;
@@ -94,7 +93,7 @@ fn finish<S: Sink>(
 }
 
 /// Follows a capture: reads it line by line, and writes each reading of the wire of a name, or of the first where that is empty, as
-/// soon as it is over by what has come, as these windows read it, and below it what there is to remark, as soon as the edges that have
+/// soon as it is over by what has come, as it is read, and below it what there is to remark, as soon as the edges that have
 /// come say all of that; at the end what there is to say of all readings. It hands on what was written before it reads the next line.
 /// At the end it has written the audit of the whole, as it is looked at: with the widths of each reading or without, its lines or
 /// their objects. It returns whether the standard has something of it otherwise.
@@ -108,13 +107,13 @@ pub fn follow_audit<R: Read, S: Sink>(
     alloc: Global,
     form: LineForm,
     signal: &[u8],
-    windows: Windows,
+    how: Reception,
     view: AuditView,
     input: &mut R,
     out: &mut Buffered<S>,
 ) -> Result<bool, FollowAuditError>
-    requires { AreWindows windows }
-    ensures follows { Follows form signal.now windows view (R.remaining input.old) (⟦<Buffered<S> as Sink>⟧.contents out.old) (⟦<Buffered<S> as Sink>⟧.contents out.new) result }
+    requires { AreWindows how.windows }
+    ensures follows { Follows form signal.now how view (R.remaining input.old) (⟦<Buffered<S> as Sink>⟧.contents out.old) (⟦<Buffered<S> as Sink>⟧.contents out.new) result }
     ensures handed { OnOk result (pending out.new ≡ []) }
     ensures kept { HoldsNothing result (pending out.old) (pending out.new) }
 {
@@ -122,7 +121,7 @@ pub fn follow_audit<R: Read, S: Sink>(
     long_lines_are_too_much();
     let mut lines = Lines::new();
     let mut line = ArrayVec::new();
-    let mut follower = AuditFollower::new(alloc, form, windows, view);
+    let mut follower = AuditFollower::new(alloc, form, how, view);
     for read in 0..MOST_LINES {
         match lines.next(input, &mut line) {
             Err(fault) => return Err(line_error(fault)),

@@ -3,12 +3,17 @@ ghost use Rattle.std.specs.Prelude.{◌≡◌, [], ◌∷◌, ◌++◌, List, No
 ghost use Rattle.std.specs.Option.{option_to_list};
 ghost use Rattle.line_wave.specs.declared.Edge.{Edge as EdgeOf};
 ghost use Rattle.line_reading.specs.Reports.{listed_as};
+ghost use Rattle.capture_through.specs.Through.{passed_edges};
+ghost use Rattle.follow_core.specs.Passing.{edges_in};
+ghost use Rattle.follow_core.specs.Teller.{listed_pair};
 
 use crate::error::FollowAuditError;
 use crate::settled::{edges_from, is_settled, later};
 use crate::view::AuditView;
 use audit_core::Auditor;
 use audit_notes::{LineHearer, LineWriter, Strict};
+use capture_through::Passed;
+use follow_core::{PassedEdges, PassedReadings};
 use line_frames::Reading;
 use line_wave::Edge;
 use std::alloc::{AllocError, Global};
@@ -31,7 +36,7 @@ pub(crate) struct Listener {
 }
 
 impl Listener {
-    ghost use Rattle.follow_audit.specs.Listener.{Finishes, HearsAll, IsAudited, Puts, Remarks, Says, SaysAllKnown, SaysEnd, SaysLast, TakesEdge, WaitsForNothing, remarks_of, waiting_count};
+    ghost use Rattle.follow_audit.specs.Listener.{Finishes, HearsAll, IsAudited, Puts, Remarks, Says, SaysAllKnown, SaysEnd, SaysLast, TakesEdge, TakesEdges, WaitsForNothing, remarks_of, waiting_count};
 
     /// Of a capture of which nothing has come.
     pub(crate) fn new(alloc: Global, view: AuditView) -> Self
@@ -81,6 +86,26 @@ impl Listener {
                 Ok(())
             }
         }
+    }
+
+    // Takes the edges of a step.
+    fn take_passed(&mut self, alloc: Global, passed: Passed) -> Result<(), AllocError>
+        ensures { OnOk result (TakesEdges self.old (passed_edges passed) self.new) }
+    {
+        self.take(alloc, passed.first)?;
+        self.take(alloc, passed.second)
+    }
+
+    /// Takes the edges that come of a line.
+    ///
+    /// # Errors
+    ///
+    /// No memory.
+    pub(crate) fn take_all(&mut self, alloc: Global, passed: PassedEdges) -> Result<(), AllocError>
+        ensures { OnOk result (TakesEdges self.old (edges_in passed) self.new) }
+    {
+        self.take_passed(alloc, passed.by_edge)?;
+        self.take_passed(alloc, passed.by_calm)
     }
 
     // Has what there is to remark of the reading that waits heard, if one does.
@@ -234,15 +259,19 @@ impl Listener {
     fn hear_rest<H: LineHearer>(
         &mut self,
         out: &mut H,
-        first: Option<Reading>,
-        second: Option<Reading>,
+        by_edge: PassedReadings,
+        by_calm: PassedReadings,
+        last: Option<Reading>,
         end: u64,
     )
-        ensures { SaysEnd H.hears self.old (option_to_list (option_map listed_as first) ++ option_to_list (option_map listed_as second)) end out.old out.new }
+        ensures { SaysEnd H.hears self.old (listed_pair by_edge ++ (listed_pair by_calm ++ option_to_list (option_map listed_as last))) end out.old out.new }
     {
         self.remark(out);
-        self.hear_last(out, first);
-        self.hear_last(out, second);
+        self.hear_last(out, by_edge.first);
+        self.hear_last(out, by_edge.second);
+        self.hear_last(out, by_calm.first);
+        self.hear_last(out, by_calm.second);
+        self.hear_last(out, last);
         self.auditor.summarize(out, end);
     }
 
@@ -255,12 +284,13 @@ impl Listener {
     pub(crate) fn finish<S: Sink>(
         self,
         remarked: bool,
-        first: Option<Reading>,
-        second: Option<Reading>,
+        by_edge: PassedReadings,
+        by_calm: PassedReadings,
+        last: Option<Reading>,
         end: u64,
         out: &mut S,
     ) -> Result<bool, FollowAuditError>
-        ensures { Finishes self (option_to_list (option_map listed_as first) ++ option_to_list (option_map listed_as second)) end remarked (S.contents out.old) (S.contents out.new) result }
+        ensures { Finishes self (listed_pair by_edge ++ (listed_pair by_calm ++ option_to_list (option_map listed_as last))) end remarked (S.contents out.old) (S.contents out.new) result }
     {
         let mut listener = self;
         let mut lines = Strict {
@@ -270,7 +300,7 @@ impl Listener {
             },
             remarked,
         };
-        listener.hear_rest(&mut lines, first, second, end);
+        listener.hear_rest(&mut lines, by_edge, by_calm, last, end);
         let remarked = lines.remarked;
         let audit = lines.hearer.out;
         let written = audit.written();

@@ -1,5 +1,5 @@
 -- What a monitor that follows a capture was told of its line, and the readings that have ended.
-use Rattle.std.proofs.Common.{◌≡◌, ℕ, suc, max, ◌+◌, ◌-◌, ◌<◌, ◌≤◌, ◌&&◌, ◌⊎◌, inl, inr, Bool, true, false, nat_lt, if◌then◌else◌, List, [], ◌∷◌, ◌++◌, Option, Some, None, refl, sym, ap, subst, ◌∙◌, append-nil, arith}
+use Rattle.std.proofs.Common.{append_assoc, option_map, ◌≡◌, ℕ, suc, max, ◌+◌, ◌-◌, ◌<◌, ◌≤◌, ◌&&◌, ◌⊎◌, inl, inr, Bool, true, false, nat_lt, if◌then◌else◌, List, [], ◌∷◌, ◌++◌, Option, Some, None, refl, sym, ap, subst, ◌∙◌, append-nil, arith}
 use Rattle.std.specs.Option.{option_to_list}
 use Rattle.std.proofs.Math.Nat.{le-max_left, le-max_right, max-eq_left, max-eq_right}
 use Rattle.std.proofs.lemmas.Bool.Decides.{nat_tests}
@@ -12,7 +12,10 @@ use Rattle.capture_core.specs.Edges.{AreInTurn, level_at, line_of_edges}
 use Rattle.capture_monitor.specs.Monitor.{FollowsCalmBy, FollowsEdgeBy, FollowsEndBy, HeardBeforeBy}
 use Rattle.capture_monitor.specs.ReadBy.{ended_before_by, readings_by}
 use Rattle.capture_monitor.proofs.ReadBy.{ended_first}
-use Rattle.follow_core.specs.Teller.{IsTold, IsToldEarly, IsUntold, NoneBefore, TellsCalm, TellsEdge, TellsEnd, ToldComeFirst}
+use Rattle.follow_core.specs.Teller.{IsTold, IsToldEarly, IsUntold, NoneBefore, TellsCalm, TellsEdge, TellsEnd, TellsPassed, ToldComeFirst}
+use Rattle.line_reading.specs.Reports.{listed_as}
+use Rattle.capture_through.specs.declared.passed.Passed.{Passed}
+use Rattle.follow_core.specs.declared.teller.PassedReadings.{PassedReadings}
 use Rattle.follow_core.specs.declared.teller.Teller.{Teller}
 
 grown : (xs ys ended : List Listed) (o : Option Listed) → ended ≡ xs → ys ≡ xs ++ option_to_list o → ended ++ option_to_list o ≡ ys
@@ -165,3 +168,17 @@ pub told_front : ToldComeFirst
 told_front win t low edges end ended w =
     let more = ended_first win low t.known end w.reach in
     (more.0, more.1 ∙ ap (λ (xs : List Listed). xs ++ more.0) (sym w.listed))
+
+-- ---- the edges of a step
+
+pub tells_passed : (old mid new : Teller) (passed : Passed) (reported : PassedReadings) → TellsEdge old passed.first (option_map listed_as reported.first) mid → TellsEdge mid passed.second (option_map listed_as reported.second) new → TellsPassed old passed reported new
+tells_passed old mid new passed reported first second = record {
+  early = second.early;
+  told = λ win low edges end ended w.
+      let one = option_to_list (option_map listed_as reported.first) in
+      let two = option_to_list (option_map listed_as reported.second) in
+      subst (λ (xs : List Listed). IsTold win new low edges end xs) (append_assoc ended one two)
+      (second.told win low edges end (ended ++ one)
+      (first.told win low (option_to_list passed.second ++ edges) end ended
+      (subst (λ (es : List Edge). IsTold win old low es end ended) (append_assoc (option_to_list passed.first) (option_to_list passed.second) edges) w)));
+}

@@ -10,15 +10,15 @@ use Rattle.text_core.specs.Lines.{lines_of}
 use Rattle.text_core.specs.Cut.{WrittenText}
 use Rattle.text_core.specs.declared.sink.WriteFault.{WriteFault}
 use Rattle.text_core.specs.declared.at.At.{At}
-use Rattle.line_reading.specs.declared.times.Windows.{Windows}
+use Rattle.follow_core.specs.declared.reception.Reception.{Reception}
 use Rattle.capture_core.specs.declared.fault.Cause.{Cause}
 use Rattle.capture_forms.specs.Captures.{capture_in}
 use Rattle.record_core.specs.declared.cell.Form.{Form}
 use Rattle.line_reading.specs.Readings.{Listed}
-use Rattle.audit_notes.specs.Lines.{line_text, lines_text}
+use Rattle.audit_notes.specs.Lines.{AuditLine}
 use Rattle.audit_notes.specs.Lines.AuditLine.{Reading}
 use Rattle.live_incoming.specs.Incoming.{IsNext, IsWhole, Leads, text_of_lines}
-use Rattle.follow_core.specs.Follow.{AreFirst, Come, Ends, Follows, HasHeard, HaveCome, Hears, HearsEnd, HearsLine, IsCut, IsCutLast, IsFollowed, IsFront, IsOfWriting, IsOverBy, IsPrompt, IsReady, IsUpToDate, Puts, heard_text, reported_text, text_of}
+use Rattle.follow_core.specs.Follow.{AreFirst, Come, Ends, Follows, HasHeard, HaveCome, Hears, HearsEnd, HearsLine, IsCut, IsCutLast, IsFollowed, IsFront, IsOfWriting, IsOverBy, IsPrompt, IsReady, IsUpToDate, Puts, heard_text, received_of, text_of}
 use Rattle.follow_core.specs.Follow.{IsWhole as IsAll}
 use Rattle.follow_core.specs.Lines.{form_as, lines_captured}
 use Rattle.follow_core.specs.declared.error.FollowError.{FollowError}
@@ -27,13 +27,17 @@ use Rattle.follow_core.specs.declared.follower.Follower.{Follower}
 use Rattle.follow_core.specs.declared.follower.EndedReadings.{EndedReadings}
 use Rattle.follow_core.specs.declared.lines.LineForm.{LineForm}
 use Rattle.follow_core.specs.declared.lines.LineForm.TheVariants as forms
-use Rattle.follow_core.proofs.Followed.{followed_front, lines_again}
+use Rattle.follow_core.proofs.Followed.{followed_front, lines_again, made_whole}
 
 -- ---- what is put
 
--- the lines of what has ended are its text
-pub heard_lines : (written : Form) (one two : Option Listed) → lines_text written (map Reading (option_to_list one) ++ map Reading (option_to_list two)) ≡ reported_text written one ++ reported_text written two
-heard_lines written one two = flat_map-append (line_text written) (map Reading (option_to_list one)) (map Reading (option_to_list two))
+pub map_more : (xs ys : List Listed) → map Reading (xs ++ ys) ≡ map Reading xs ++ map Reading ys
+map_more [] ys = refl
+map_more (x ∷ xs) ys = ap (λ (ls : List AuditLine). Reading x ∷ ls) (map_more xs ys)
+
+-- lines, by another name
+pub heard_as : {H : Type 0} (hears : H → List AuditLine → H → Type 0) (a b : H) (xs ys : List AuditLine) → xs ≡ ys → hears a xs b → hears a ys b
+heard_as hears a b xs ys same heard = subst (λ (ls : List AuditLine). hears a ls b) same heard
 
 -- a text, by another name
 pub puts_whole : (old new : Option (List ℕ)) (was is : Bool) (text other : List ℕ) (done : Result ℕ WriteFault) (n : ℕ) → done ≡ Ok n → text ≡ other → WrittenText old new was is text done → Puts {F = WriteFault} old new other (Ok tt)
@@ -54,14 +58,14 @@ puts_all old mid new text error a k = (text, [], sym (append-nil text), Appends-
 -- ---- a line
 
 -- of a text of which all is a front, each front is one
-front_less : (more : Bool) (form : LineForm) (signal : List ℕ) (written : Form) (win : Windows) (past : List (List ℕ)) (text front rest : List ℕ) → text ≡ front ++ rest → (so_far : List ℕ) → IsFront more form signal written win past (so_far ++ text) → IsFront more form signal written win past (so_far ++ front)
-front_less more form signal written win past text front rest is so_far h = λ left c all read.
+front_less : (more : Bool) (form : LineForm) (signal : List ℕ) (written : Form) (how : Reception) (past : List (List ℕ)) (text front rest : List ℕ) → text ≡ front ++ rest → (so_far : List ℕ) → IsFront more form signal written how past (so_far ++ text) → IsFront more form signal written how past (so_far ++ front)
+front_less more form signal written how past text front rest is so_far h = λ left c all read.
     let f = h left c all read in
     (rest ++ f.0, f.1 ∙ ap (λ t. (so_far ++ t) ++ f.0) is ∙ ap (λ t. t ++ f.0) (sym (append_assoc so_far front rest)) ∙ append_assoc (so_far ++ front) rest f.0)
 
 pub hears : (written : Form) (signal : List ℕ) (number : ℕ) (line : List ℕ) (old new : Follower) (heard : EndedReadings) (before after : Option (List ℕ)) (result : Result (Unit {0}) FollowError) → HearsLine signal number line old (Ok heard) new → IsPrompt new
     → Puts before after (heard_text written heard) result → IsOfWriting result → Hears written signal number line old new before after result
-hears written signal number line old new heard before after (Ok done) h prompt put writes = record { text = heard_text written heard; put = put; followed = λ form win past so_far w. h form written win past so_far w; prompt = prompt }
+hears written signal number line old new heard before after (Ok done) h prompt put writes = record { text = heard_text written heard; put = put; followed = λ form how past so_far w. h form written how past so_far w; prompt = prompt }
 hears written signal number line old new heard before after (Err (Capture fault)) h prompt put writes = absurd writes
 hears written signal number line old new heard before after (Err Read) h prompt put writes = absurd writes
 hears written signal number line old new heard before after (Err TooLong) h prompt put writes = absurd writes
@@ -69,7 +73,7 @@ hears written signal number line old new heard before after (Err (Write count)) 
   text = put.0;
   left = put.1;
   put = put.3;
-  followed = λ form win past so_far w. subst (λ t. IsFollowed form signal written win (past ++ line ∷ []) (number + 1) new (so_far ++ t)) put.2 (h form written win past so_far w);
+  followed = λ form how past so_far w. subst (λ t. IsFollowed form signal written how (past ++ line ∷ []) (number + 1) new (so_far ++ t)) put.2 (h form written how past so_far w);
   prompt = prompt;
 }
 
@@ -79,15 +83,15 @@ fault_heard written signal number line old new bytes fault h place = record { pu
 
 -- ---- the end
 
-whole_front : (form : LineForm) (signal : List ℕ) (written : Form) (win : Windows) (past : List (List ℕ)) (text : List ℕ) → IsAll form signal written win past text → IsFront false form signal written win past text
-whole_front form signal written win past text w = λ rest c none read.
-    let same : Ok w.capture ≡ Ok c = sym w.read ∙ ap (lines_captured form signal) (sym (append-nil past) ∙ ap (λ ls. past ++ ls) (sym none)) ∙ read in
+whole_front : (form : LineForm) (signal : List ℕ) (written : Form) (how : Reception) (past : List (List ℕ)) (text : List ℕ) → IsAll form signal written how past text → IsFront false form signal written how past text
+whole_front form signal written how past text w = λ rest c none read.
+    let same : Ok w.capture ≡ Ok c = sym w.read ∙ ap (received_of how form signal) (sym (append-nil past) ∙ ap (λ ls. past ++ ls) (sym none)) ∙ read in
     let is : w.capture ≡ c = cc in
-    ([], ap (text_of written win) (sym is) ∙ w.all ∙ sym (append-nil text))
+    ([], ap (text_of written how) (sym is) ∙ w.all ∙ sym (append-nil text))
 
 pub ends : (written : Form) (number : ℕ) (f : Follower) (heard : EndedReadings) (before after : Option (List ℕ)) (result : Result (Unit {0}) FollowError) → HearsEnd number f (Ok heard) → Puts before after (heard_text written heard) result
     → IsOfWriting result → Ends written number f before after result
-ends written number f heard before after (Ok done) h put writes = record { text = heard_text written heard; put = put; all = λ form signal win past so_far w. h form signal written win past so_far w }
+ends written number f heard before after (Ok done) h put writes = record { text = heard_text written heard; put = put; all = λ form signal how past so_far w. h form signal written how past so_far w }
 ends written number f heard before after (Err (Capture fault)) h put writes = absurd writes
 ends written number f heard before after (Err Read) h put writes = absurd writes
 ends written number f heard before after (Err TooLong) h put writes = absurd writes
@@ -95,7 +99,7 @@ ends written number f heard before after (Err (Write count)) h put writes = reco
   text = put.0;
   left = put.1;
   put = put.3;
-  all = λ form signal win past so_far w. subst (λ t. IsAll form signal written win past (so_far ++ t)) put.2 (h form signal written win past so_far w);
+  all = λ form signal how past so_far w. subst (λ t. IsAll form signal written how past (so_far ++ t)) put.2 (h form signal written how past so_far w);
 }
 
 pub fault_ends : (written : Form) (number : ℕ) (f : Follower) (bytes : Option (List ℕ)) (fault : At Cause) → HearsEnd number f (Err fault) → fault.line ≡ number → Ends written number f bytes bytes (Err (Capture fault))
@@ -116,13 +120,13 @@ pub next_end : (old new : Option (List ℕ)) (line : List ℕ) (more : Bool) →
 next_end old new line true is h = cc
 next_end old new line false is h = h
 
-pub record Going (form : LineForm) (signal : List ℕ) (written : Form) (win : Windows) (known now before after : Option (List ℕ)) (f : Follower) (number : ℕ) : Type 0 where
+pub record Going (form : LineForm) (signal : List ℕ) (written : Form) (how : Reception) (known now before after : Option (List ℕ)) (f : Follower) (number : ℕ) : Type 0 where
   pub past : List (List ℕ)
   pub count : number ≡ length past + 1
   pub text : List ℕ
   pub come : Come known now past
   pub whole : All IsWhole past
-  pub followed : IsFollowed form signal written win past number f text
+  pub followed : IsFollowed form signal written how past number f text
   pub prompt : IsPrompt f
   pub ready : IsReady f
   pub put : Appends before after text
@@ -135,8 +139,8 @@ come_none : (known : Option (List ℕ)) → Come known known []
 come_none None = tt
 come_none (Some xs) = refl
 
-pub going_first : (form : LineForm) (signal : List ℕ) (written : Form) (win : Windows) (known before : Option (List ℕ)) (left : List ℕ) (f : Follower) → left ≡ [] → IsFollowed form signal written win [] 1 f [] → IsPrompt f → IsReady f → Going form signal written win known (prepend_known left known) before before f 1
-going_first form signal written win known before left f none w prompt ready = record {
+pub going_first : (form : LineForm) (signal : List ℕ) (written : Form) (how : Reception) (known before : Option (List ℕ)) (left : List ℕ) (f : Follower) → left ≡ [] → IsFollowed form signal written how [] 1 f [] → IsPrompt f → IsReady f → Going form signal written how known (prepend_known left known) before before f 1
+going_first form signal written how known before left f none w prompt ready = record {
   past = [];
   count = refl;
   text = [];
@@ -154,15 +158,15 @@ come_more (Some xs) None next past line a b = absurd a
 come_more (Some xs) (Some ys) None past line a b = absurd b
 come_more (Some xs) (Some ys) (Some zs) past line a b = a ∙ ap (λ ls. past ++ ls) b ∙ sym (append_assoc past (line ∷ []) (lines_of zs))
 
-pub going_more : (form : LineForm) (signal : List ℕ) (written : Form) (win : Windows) (known now next before mid after : Option (List ℕ)) (old new : Follower) (number : ℕ) (line : List ℕ) → Going form signal written win known now before mid old number → IsWhole line → Leads now next line
-    → HasHeard written signal number line old new mid after → IsReady new → Going form signal written win known next before after new (number + 1)
-going_more form signal written win known now next before mid after old new number line g whole leads h ready = record {
+pub going_more : (form : LineForm) (signal : List ℕ) (written : Form) (how : Reception) (known now next before mid after : Option (List ℕ)) (old new : Follower) (number : ℕ) (line : List ℕ) → Going form signal written how known now before mid old number → IsWhole line → Leads now next line
+    → HasHeard written signal number line old new mid after → IsReady new → Going form signal written how known next before after new (number + 1)
+going_more form signal written how known now next before mid after old new number line g whole leads h ready = record {
   past = g.past ++ line ∷ [];
   count = let more : length (g.past ++ line ∷ []) ≡ length g.past + 1 = length-append g.past (line ∷ []) in let count = g.count in omega (arith, more, count);
   text = g.text ++ h.text;
   come = come_more known now next g.past line g.come leads;
   whole = All-append IsWhole g.past (line ∷ []) g.whole (All-cons IsWhole line [] whole (All-nil IsWhole));
-  followed = h.followed form win g.past g.text g.followed;
+  followed = h.followed form how g.past g.text g.followed;
   prompt = h.prompt;
   ready = ready;
   put = Appends-trans before mid after g.text h.text g.put h.put;
@@ -181,14 +185,14 @@ came_all (Some xs) None past a end = absurd a
 came_all (Some xs) (Some ys) past a end = a ∙ ap (λ t. past ++ lines_of t) end ∙ append-nil past
 
 -- each reading that is over is written
-pub up_to_date : (form : LineForm) (signal : List ℕ) (written : Form) (win : Windows) (known now before mid after : Option (List ℕ)) (f : Follower) (number : ℕ) → (g : Going form signal written win known now before mid f number) → Appends mid after []
-    → IsUpToDate form signal written win g.past before after
-up_to_date form signal written win known now before mid after f number g none = record {
+pub up_to_date : (form : LineForm) (signal : List ℕ) (written : Form) (how : Reception) (known now before mid after : Option (List ℕ)) (f : Follower) (number : ℕ) → (g : Going form signal written how known now before mid f number) → Appends mid after []
+    → IsUpToDate form signal written how g.past before after
+up_to_date form signal written how known now before mid after f number g none = record {
   follower = f;
   text = g.text;
-  followed = subst (λ n. IsFollowed form signal written win g.past n f g.text) g.count g.followed;
+  followed = subst (λ n. IsFollowed form signal written how g.past n f g.text) g.count g.followed;
   prompt = g.prompt;
-  front = followed_front form signal written win g.past number f g.text g.followed;
+  front = followed_front form signal written how g.past number f g.text g.followed;
   put = subst (λ t. Appends before after t) (append-nil g.text) (Appends-trans before mid after g.text [] g.put none);
 }
 
@@ -217,50 +221,50 @@ refused_end form signal (Some xs) (Some ys) past fault a end refused =
     by_lines form signal xs ∙ ap (lines_captured form signal) (a ∙ ap (λ t. past ++ lines_of t) end ∙ append-nil past) ∙ refused
 
 -- what is over by a line of which the write failed
-cut_over : (form : LineForm) (signal : List ℕ) (written : Form) (win : Windows) (known now before mid after : Option (List ℕ)) (old new : Follower) (number : ℕ) (line : List ℕ) → (g : Going form signal written win known now before mid old number)
-    → (h : IsCut written signal number line old new mid after) → IsOverBy form signal written win g.past (Some line) (g.text ++ (h.text ++ h.left)) (g.text ++ h.text)
-cut_over form signal written win known now before mid after old new number line g h =
-    let w : IsFollowed form signal written win (g.past ++ line ∷ []) (number + 1) new (g.text ++ (h.text ++ h.left)) = h.followed form win g.past g.text g.followed in (
+cut_over : (form : LineForm) (signal : List ℕ) (written : Form) (how : Reception) (known now before mid after : Option (List ℕ)) (old new : Follower) (number : ℕ) (line : List ℕ) → (g : Going form signal written how known now before mid old number)
+    → (h : IsCut written signal number line old new mid after) → IsOverBy form signal written how g.past (Some line) (g.text ++ (h.text ++ h.left)) (g.text ++ h.text)
+cut_over form signal written how known now before mid after old new number line g h =
+    let w : IsFollowed form signal written how (g.past ++ line ∷ []) (number + 1) new (g.text ++ (h.text ++ h.left)) = h.followed form how g.past g.text g.followed in (
       new,
-      subst (λ n. IsFollowed form signal written win (g.past ++ line ∷ []) (n + 1) new (g.text ++ (h.text ++ h.left))) g.count w,
+      subst (λ n. IsFollowed form signal written how (g.past ++ line ∷ []) (n + 1) new (g.text ++ (h.text ++ h.left))) g.count w,
       h.prompt,
-      front_less true form signal written win (g.past ++ line ∷ []) (h.text ++ h.left) h.text h.left refl g.text (followed_front form signal written win (g.past ++ line ∷ []) (number + 1) new (g.text ++ (h.text ++ h.left)) w),
+      front_less true form signal written how (g.past ++ line ∷ []) (h.text ++ h.left) h.text h.left refl g.text (followed_front form signal written how (g.past ++ line ∷ []) (number + 1) new (g.text ++ (h.text ++ h.left)) w),
     )
 
 -- or with the end
-cut_last : (form : LineForm) (signal : List ℕ) (written : Form) (win : Windows) (known now before mid after : Option (List ℕ)) (f : Follower) (number : ℕ) → (g : Going form signal written win known now before mid f number) → (h : IsCutLast written number f mid after)
-    → IsOverBy form signal written win g.past None (g.text ++ (h.text ++ h.left)) (g.text ++ h.text)
-cut_last form signal written win known now before mid after f number g h =
-    let all : IsAll form signal written win g.past (g.text ++ (h.text ++ h.left)) = h.all form signal win g.past g.text g.followed in
-    (all, front_less false form signal written win g.past (h.text ++ h.left) h.text h.left refl g.text (whole_front form signal written win g.past (g.text ++ (h.text ++ h.left)) all))
+cut_last : (form : LineForm) (signal : List ℕ) (written : Form) (how : Reception) (known now before mid after : Option (List ℕ)) (f : Follower) (number : ℕ) → (g : Going form signal written how known now before mid f number) → (h : IsCutLast written number f mid after)
+    → IsOverBy form signal written how g.past None (g.text ++ (h.text ++ h.left)) (g.text ++ h.text)
+cut_last form signal written how known now before mid after f number g h =
+    let all : IsAll form signal written how g.past (g.text ++ (h.text ++ h.left)) = h.all form signal how g.past g.text g.followed in
+    (all, front_less false form signal written how g.past (h.text ++ h.left) h.text h.left refl g.text (whole_front form signal written how g.past (g.text ++ (h.text ++ h.left)) all))
 
 -- a line that stops it
-pub line_stops : (form : LineForm) (signal : List ℕ) (written : Form) (win : Windows) (known now next before mid after : Option (List ℕ)) (old new : Follower) (number : ℕ) (line : List ℕ) (error : FollowError) → Going form signal written win known now before mid old number
-    → Leads now next line → Hears written signal number line old new mid after (Err error) → Follows form signal written win known before after (Err error)
-line_stops form signal written win known now next before mid after old new number line (Capture fault) g leads h = record {
+pub line_stops : (form : LineForm) (signal : List ℕ) (written : Form) (how : Reception) (known now next before mid after : Option (List ℕ)) (old new : Follower) (number : ℕ) (line : List ℕ) (error : FollowError) → Going form signal written how known now before mid old number
+    → Leads now next line → Hears written signal number line old new mid after (Err error) → Follows form signal written how known before after (Err error)
+line_stops form signal written how known now next before mid after old new number line (Capture fault) g leads h = record {
   past = g.past;
   next = Some line;
   came = came_first known next (g.past ++ line ∷ []) (come_more known now next g.past line g.come leads);
   place = h.place ∙ g.count;
-  refused = h.refused form written win g.past g.text g.followed;
-  read = refused_line form signal known now next g.past line fault g.come leads (h.refused form written win g.past g.text g.followed);
-  written = up_to_date form signal written win known now before mid after old number g h.put;
+  refused = h.refused form written how g.past g.text g.followed;
+  read = refused_line form signal known now next g.past line fault g.come leads (h.refused form written how g.past g.text g.followed);
+  written = up_to_date form signal written how known now before mid after old number g h.put;
 }
-line_stops form signal written win known now next before mid after old new number line (Write count) g leads h = record {
+line_stops form signal written how known now next before mid after old new number line (Write count) g leads h = record {
   past = g.past;
   next = Some line;
   came = came_first known next (g.past ++ line ∷ []) (come_more known now next g.past line g.come leads);
   follower = old;
   text = g.text;
-  followed = subst (λ n. IsFollowed form signal written win g.past n old g.text) g.count g.followed;
+  followed = subst (λ n. IsFollowed form signal written how g.past n old g.text) g.count g.followed;
   prompt = g.prompt;
   front = h.text;
   left = h.left;
-  over = cut_over form signal written win known now before mid after old new number line g h;
+  over = cut_over form signal written how known now before mid after old new number line g h;
   put = Appends-trans before mid after g.text h.text g.put h.put;
 }
-line_stops form signal written win known now next before mid after old new number line Read g leads h = absurd h
-line_stops form signal written win known now next before mid after old new number line TooLong g leads h = absurd h
+line_stops form signal written how known now next before mid after old new number line Read g leads h = absurd h
+line_stops form signal written how known now next before mid after old new number line TooLong g leads h = absurd h
 
 -- no line is left
 input_of : (form : LineForm) (known now : Option (List ℕ)) (past : List (List ℕ)) → Come known now past → All IsWhole past → IsAtEnd now
@@ -269,39 +273,40 @@ input_of form None now past a whole end = (text_of_lines past, tt, lines_again p
 input_of form (Some xs) None past a whole end = absurd a
 input_of form (Some xs) (Some ys) past a whole end = (xs, refl, a ∙ ap (λ t. past ++ lines_of t) end ∙ append-nil past)
 
-pub end_stops : (form : LineForm) (signal : List ℕ) (written : Form) (win : Windows) (known now before mid after : Option (List ℕ)) (f : Follower) (number : ℕ) (result : Result (Unit {0}) FollowError) → Going form signal written win known now before mid f number → IsAtEnd now
-    → Ends written number f mid after result → Follows form signal written win known before after result
-end_stops form signal written win known now before mid after f number (Ok done) g end h =
-    let all = h.all form signal win g.past g.text g.followed in
+pub end_stops : (form : LineForm) (signal : List ℕ) (written : Form) (how : Reception) (known now before mid after : Option (List ℕ)) (f : Follower) (number : ℕ) (result : Result (Unit {0}) FollowError) → Going form signal written how known now before mid f number → IsAtEnd now
+    → Ends written number f mid after result → Follows form signal written how known before after result
+end_stops form signal written how known now before mid after f number (Ok done) g end h =
+    let all = h.all form signal how g.past g.text g.followed in
     let input = input_of form known now g.past g.come g.whole end in
+    let raw = made_whole how (lines_captured form signal g.past) all.capture all.read in
     record {
       input = input.0;
       all = input.1;
-      capture = all.capture;
-      read = by_lines form signal input.0 ∙ ap (lines_captured form signal) input.2 ∙ all.read;
-      put = subst (λ t. Appends before after t) (sym all.all) (Appends-trans before mid after g.text h.text g.put h.put);
+      capture = raw.0;
+      read = by_lines form signal input.0 ∙ ap (lines_captured form signal) input.2 ∙ raw.1;
+      put = subst (λ t. Appends before after t) (sym all.all ∙ ap (text_of written how) raw.2) (Appends-trans before mid after g.text h.text g.put h.put);
     }
-end_stops form signal written win known now before mid after f number (Err (Capture fault)) g end h = record {
+end_stops form signal written how known now before mid after f number (Err (Capture fault)) g end h = record {
   past = g.past;
   next = None;
   came = came_all known now g.past g.come end;
   place = h.place ∙ g.count;
-  refused = h.refused form signal written win g.past g.text g.followed;
-  read = refused_end form signal known now g.past fault g.come end (h.refused form signal written win g.past g.text g.followed);
-  written = up_to_date form signal written win known now before mid after f number g h.put;
+  refused = h.refused form signal written how g.past g.text g.followed;
+  read = refused_end form signal known now g.past fault g.come end (h.refused form signal written how g.past g.text g.followed);
+  written = up_to_date form signal written how known now before mid after f number g h.put;
 }
-end_stops form signal written win known now before mid after f number (Err (Write count)) g end h = record {
+end_stops form signal written how known now before mid after f number (Err (Write count)) g end h = record {
   past = g.past;
   next = None;
   came = came_all known now g.past g.come end;
   follower = f;
   text = g.text;
-  followed = subst (λ n. IsFollowed form signal written win g.past n f g.text) g.count g.followed;
+  followed = subst (λ n. IsFollowed form signal written how g.past n f g.text) g.count g.followed;
   prompt = g.prompt;
   front = h.text;
   left = h.left;
-  over = cut_last form signal written win known now before mid after f number g h;
+  over = cut_last form signal written how known now before mid after f number g h;
   put = Appends-trans before mid after g.text h.text g.put h.put;
 }
-end_stops form signal written win known now before mid after f number (Err Read) g end h = absurd h
-end_stops form signal written win known now before mid after f number (Err TooLong) g end h = absurd h
+end_stops form signal written how known now before mid after f number (Err Read) g end h = absurd h
+end_stops form signal written how known now before mid after f number (Err TooLong) g end h = absurd h

@@ -1,6 +1,6 @@
 -- A monitor that is told a captured line, edge by edge and up to where no edge comes: the readings that have ended (own).
 use Rattle.std.specs.Prelude.{◌≡◌, ℕ, ◌+◌, ◌≤◌, Bool, false, List, [], ◌++◌, Option}
-use Rattle.std.specs.Option.{option_to_list}
+use Rattle.std.specs.Option.{option_map, option_to_list}
 use Rattle.line_wave.specs.declared.Edge.{Edge}
 use Rattle.line_wave.specs.Line.{Line, was_low}
 use Rattle.line_wave.specs.Bounds.{latest_instant}
@@ -9,6 +9,10 @@ use Rattle.line_reading.specs.Readings.{Listed}
 use Rattle.capture_core.specs.Edges.{AreInTurn, EndBy, level_at, line_of_edges}
 use Rattle.capture_monitor.specs.Monitor.{HeardBeforeBy}
 use Rattle.capture_monitor.specs.ReadBy.{ended_before_by, readings_by}
+use Rattle.line_reading.specs.Reports.{listed_as}
+use Rattle.capture_through.specs.Through.{passed_edges}
+use Rattle.capture_through.specs.declared.passed.Passed.{Passed}
+use Rattle.follow_core.specs.declared.teller.PassedReadings.{PassedReadings}
 use Rattle.follow_core.specs.declared.teller.Teller.{Teller}
 
 -- Before microsecond `known` it was told a line, of which these edges are still to come, up to an end; these readings have ended.
@@ -40,6 +44,16 @@ pub record TellsEdge (old : Teller) (edge : Option Edge) (reported : Option List
   pub early : IsToldEarly new
   pub told : (windows : Windows) (low : Line) (edges : List Edge) (end : ℕ) (ended : List Listed) → IsTold windows old low (option_to_list edge ++ edges) end ended
       → IsTold windows new low edges end (ended ++ option_to_list reported)
+
+-- what it has reported of edges that come one after the other
+abbrev pub listed_pair : PassedReadings → List Listed
+listed_pair p = option_to_list (option_map listed_as p.first) ++ option_to_list (option_map listed_as p.second)
+
+-- edges are told
+pub record TellsPassed (old : Teller) (passed : Passed) (reported : PassedReadings) (new : Teller) : Type 0 where
+  pub early : IsToldEarly new
+  pub told : (windows : Windows) (low : Line) (edges : List Edge) (end : ℕ) (ended : List Listed) → IsTold windows old low (passed_edges passed ++ edges) end ended
+      → IsTold windows new low edges end (ended ++ listed_pair reported)
 
 -- no edge of these comes before an instant
 abbrev pub NoneBefore : ℕ → List Edge → Type 0

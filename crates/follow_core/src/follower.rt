@@ -4,35 +4,37 @@ ghost use Rattle.line_reading.specs.Windows.{AreWindows};
 ghost use Rattle.record_core.specs.declared.cell.Form.{Form};
 ghost use Rattle.follow_core.specs.Follow.{HearsEnd, HearsLine, IsFollowed, IsPrompt, IsReady};
 
-use crate::lines::{CaptureLines, LineForm};
-use crate::teller::Teller;
+use crate::lines::LineForm;
+use crate::passing::PassingLines;
+use crate::reception::Reception;
+use crate::teller::{PassedReadings, Teller};
 use capture_core::Cause;
 use capture_csv::csv_lines_go_on;
 use capture_monitor::edge_lines_go_on;
 use capture_pin::pin_lines_go_on;
 use line_frames::Reading;
-use line_reading::Windows;
 use text_core::At;
 
-/// What has ended by a line: two readings at most.
+/// What has ended by a line: by the edges that come of its own edge, by those that come as none comes before an instant, and by that.
 #[derive(Debug, Drop)]
 pub struct EndedReadings {
-    pub first: Option<Reading>,
-    pub second: Option<Reading>,
+    pub by_edge: PassedReadings,
+    pub by_calm: PassedReadings,
+    pub last: Option<Reading>,
 }
 
 /// Follows a capture line by line, and answers each reading as soon as it is over by what the lines say. It takes no memory.
 #[derive(Debug, Drop)]
 pub struct Follower {
-    lines: CaptureLines,
+    lines: PassingLines,
     teller: Teller,
 }
 
 impl Follower {
-    /// A follower by these windows of a capture in this form, of which no line has come.
-    pub fn new(form: LineForm, windows: Windows) -> Self
-        requires { AreWindows windows }
-        ensures followed { (signal : List ℕ) (written : Form) → IsFollowed form signal written windows [] 1 result [] }
+    /// A follower of a capture in this form, which is read so, and of which no line has come.
+    pub fn new(form: LineForm, how: Reception) -> Self
+        requires { AreWindows how.windows }
+        ensures followed { (signal : List ℕ) (written : Form) → IsFollowed form signal written how [] 1 result [] }
         ensures prompt { IsPrompt result }
         ensures ready { IsReady result }
     {
@@ -41,8 +43,8 @@ impl Follower {
         pin_lines_go_on();
         csv_lines_go_on();
         Follower {
-            lines: CaptureLines::new(form),
-            teller: Teller::new(windows),
+            lines: PassingLines::new(form, how.inverted, how.glitch),
+            teller: Teller::new(how.windows),
         }
     }
 
@@ -63,15 +65,16 @@ impl Follower {
         ensures prompt { OnOk result (IsPrompt self.new) }
         ensures ready { OnOk result (IsReady self.new) }
     {
-        // No effect at run time. The proof reads from them how the lines of a form go on.
-        edge_lines_go_on();
-        pin_lines_go_on();
-        csv_lines_go_on();
-        let edge = self.lines.take(signal, number, line)?;
-        let first = self.teller.edge(edge);
+        let passed = self.lines.take(signal, number, line)?;
+        let by_edge = self.teller.pass(passed.by_edge);
+        let by_calm = self.teller.pass(passed.by_calm);
         let lines = self.lines;
-        let second = self.teller.calm(lines.from());
-        Ok(EndedReadings { first, second })
+        let last = self.teller.calm(lines.known());
+        Ok(EndedReadings {
+            by_edge,
+            by_calm,
+            last,
+        })
     }
 
     /// No line is left: answers what is left of the readings, the one that is open at the end too. This number is that of the line
@@ -89,9 +92,14 @@ impl Follower {
         match self.lines.end(number) {
             Err(fault) => Err(fault),
             Ok(last) => {
-                let first = teller.edge(last.edge);
-                let second = teller.end(last.end);
-                Ok(EndedReadings { first, second })
+                let by_edge = teller.pass(last.edges.by_edge);
+                let by_calm = teller.pass(last.edges.by_calm);
+                let last = teller.end(last.end);
+                Ok(EndedReadings {
+                    by_edge,
+                    by_calm,
+                    last,
+                })
             }
         }
     }

@@ -6,15 +6,17 @@ ghost use Rattle.text_core.specs.Buffered.{pending};
 ghost use Rattle.line_reading.specs.Reports.{listed_as};
 ghost use Rattle.line_reading.specs.Windows.{AreWindows};
 ghost use Rattle.audit_notes.specs.Lines.{AuditLine};
-ghost use Rattle.follow_core.specs.Follow.{Ends, Follows, HoldsNothing, Hears, IsOfWriting, IsReady, Puts, heard_text, line_error};
+ghost use Rattle.follow_core.specs.Teller.{listed_pair};
+ghost use Rattle.follow_core.specs.Follow.{Ends, Follows, HoldsNothing, Hears, IsOfWriting, IsReady, Puts, heard_text, line_error, listed_in};
 
 use crate::error::FollowError;
 use crate::follower::{EndedReadings, Follower};
 use crate::lines::LineForm;
+use crate::reception::Reception;
+use crate::teller::PassedReadings;
 use arrayvec::ArrayVec;
 use audit_notes::{LineHearer, LineWriter};
 use line_frames::Reading;
-use line_reading::Windows;
 use live_incoming::{IncomingFault, Lines};
 use record_core::Form;
 use std::io::Read;
@@ -33,6 +35,23 @@ fn hear_one<H: LineHearer>(reading: &Option<Reading>, out: &mut H)
     }
 }
 
+// Hears what has ended by the edges of a step.
+fn hear_pair<H: LineHearer>(pair: &PassedReadings, out: &mut H)
+    ensures { H.hears out.old (map AuditLine.Reading (listed_pair pair.now)) out.new }
+{
+    hear_one(&pair.first, out);
+    hear_one(&pair.second, out);
+}
+
+// Hears what has ended.
+fn hear_ended<H: LineHearer>(heard: &EndedReadings, out: &mut H)
+    ensures { H.hears out.old (map AuditLine.Reading (listed_in heard.now)) out.new }
+{
+    hear_pair(&heard.by_edge, out);
+    hear_pair(&heard.by_calm, out);
+    hear_one(&heard.last, out);
+}
+
 // Writes what has ended, up to a fault: its lines, or their objects.
 fn write_both<S: Sink>(written: Form, heard: &EndedReadings, out: &mut S) -> Result<(), WriteFault>
     ensures { Puts (S.contents out.old) (S.contents out.new) (heard_text written heard.now) result }
@@ -41,8 +60,7 @@ fn write_both<S: Sink>(written: Form, heard: &EndedReadings, out: &mut S) -> Res
         form: written,
         out: Counted::new(out),
     };
-    hear_one(&heard.first, &mut lines);
-    hear_one(&heard.second, &mut lines);
+    hear_ended(heard, &mut lines);
     let text = lines.out;
     let done = text.written();
     // No effect at run time. The proof reads what `out` holds from the sink that comes back.
@@ -133,7 +151,7 @@ fn finish<S: Sink>(
 }
 
 /// Follows a capture: reads it line by line, and writes each reading of the wire of a name, or of the first where that is empty, as
-/// soon as it is over by what has come, as these windows read it: its line, or its object. What was written is handed on before the
+/// soon as it is over by what has come, as it is read: its line, or its object. What was written is handed on before the
 /// next line is read. At the end it has written the readings of the whole.
 ///
 /// # Errors
@@ -144,18 +162,18 @@ pub fn follow<R: Read, S: Sink>(
     form: LineForm,
     signal: &[u8],
     written: Form,
-    windows: Windows,
+    how: Reception,
     input: &mut R,
     out: &mut Buffered<S>,
 ) -> Result<(), FollowError>
-    requires { AreWindows windows }
-    ensures follows { Follows form signal.now written windows (R.remaining input.old) (⟦<Buffered<S> as Sink>⟧.contents out.old) (⟦<Buffered<S> as Sink>⟧.contents out.new) result }
+    requires { AreWindows how.windows }
+    ensures follows { Follows form signal.now written how (R.remaining input.old) (⟦<Buffered<S> as Sink>⟧.contents out.old) (⟦<Buffered<S> as Sink>⟧.contents out.new) result }
     ensures handed { OnOk result (pending out.new ≡ []) }
     ensures kept { HoldsNothing result (pending out.old) (pending out.new) }
 {
     let mut lines = Lines::new();
     let mut line = ArrayVec::new();
-    let mut follower = Follower::new(form, windows);
+    let mut follower = Follower::new(form, how);
     for read in 0..MOST_LINES {
         match lines.next(input, &mut line) {
             Err(fault) => return Err(line_error(fault)),

@@ -7,14 +7,18 @@ mod follower;
 mod following;
 mod laws;
 mod lines;
+mod passing;
+mod reception;
 mod teller;
 
 pub use error::FollowError;
 pub use follower::{EndedReadings, Follower};
 pub use following::follow;
 pub use laws::{
-    edges_come_before_what_is_left, lines_leave_a_capture_in_turn, long_lines_are_too_much,
-    told_readings_come_first,
+    edges_come_before_what_is_left, edges_of_a_line_are_told, lines_leave_a_capture_in_turn,
+    long_lines_are_too_much, told_readings_come_first, what_is_made_was_read,
 };
 pub use lines::{CaptureLines, Last, LineForm};
-pub use teller::Teller;
+pub use passing::{LastEdges, PassedEdges, PassingLines};
+pub use reception::Reception;
+pub use teller::{PassedReadings, Teller};

@@ -4,6 +4,7 @@ ghost use Rattle.line_wave.specs.Bounds.{latest_instant};
 ghost use Rattle.line_reading.specs.Reports.{listed_as};
 
 use capture_monitor::Monitor;
+use capture_through::Passed;
 use line_frames::Reading;
 use line_reading::Windows;
 use line_wave::Edge;
@@ -16,9 +17,17 @@ pub struct Teller {
     known: u64,
 }
 
+/// What has ended by the edges of a step: two readings at most.
+#[derive(Debug, Drop)]
+pub struct PassedReadings {
+    pub first: Option<Reading>,
+    pub second: Option<Reading>,
+}
+
 impl Teller {
     ghost use Rattle.line_reading.specs.Windows.{AreWindows};
-    ghost use Rattle.follow_core.specs.Teller.{IsToldEarly, IsUntold, TellsCalm, TellsEdge, TellsEnd};
+    ghost use Rattle.capture_through.specs.Through.{PassedEarly};
+    ghost use Rattle.follow_core.specs.Teller.{IsToldEarly, IsUntold, TellsCalm, TellsEdge, TellsEnd, TellsPassed};
 
     /// A monitor by these windows, which was told nothing.
     pub fn new(windows: Windows) -> Self
@@ -45,6 +54,17 @@ impl Teller {
                 self.monitor.edge(edge)
             }
         }
+    }
+
+    /// Tells it the edges of a step, and returns the readings that have ended by them.
+    pub fn pass(&mut self, passed: Passed) -> PassedReadings
+        requires known { IsToldEarly self.old }
+        requires early { PassedEarly passed }
+        ensures { TellsPassed self.old passed result self.new }
+    {
+        let first = self.edge(passed.first);
+        let second = self.edge(passed.second);
+        PassedReadings { first, second }
     }
 
     /// Tells it that no edge comes before an instant, and returns the reading that has ended.

@@ -1,5 +1,5 @@
 -- A run that ends earlier agrees with the whole one before then, and reports the states that a script speaks of.
-use Rattle.std.proofs.Common.{◌≡◌, ℕ, ◌+◌, ◌≤◌, Bool, true, false, cond, List, [], ◌∷◌, ◌++◌, filter, length, max, min, nat_lt, nat_le, Option, Some, None, Result, Ok, refl, sym, ap, subst, ◌∙◌, arith, append-nil}
+use Rattle.std.proofs.Common.{◌≡◌, ℕ, ◌+◌, ◌≤◌, Bool, true, false, cond, List, [], ◌∷◌, ◌++◌, filter, length, max, min, nat_lt, nat_le, Option, Some, None, Ok, refl, sym, ap, subst, ◌∙◌, arith, append-nil}
 use Rattle.std.proofs.lemmas.Bool.Decides.{nat_tests}
 use Rattle.std.proofs.lemmas.List.Elements.{All-cons, All-nil, All-weaker, filter_passes}
 use Rattle.std.specs.List.{All}
@@ -7,20 +7,19 @@ use Rattle.line_wave.specs.declared.Stretch.{Stretch}
 use Rattle.line_wave.specs.Bounds.{latest_event}
 use Rattle.room_script.specs.Topology.{Plan, topology_of}
 use Rattle.room_script.specs.Script.{Course, IsSchedule, IsScriptRead, pulses_ended}
-use Rattle.text_core.specs.declared.at.At.{At}
-use Rattle.room_script.specs.declared.script.ScriptCause.{ScriptCause}
 use Rattle.room_script.specs.declared.script.TimedEvent.{TimedEvent}
 use Rattle.room_script.proofs.OneReading.{one_script}
 use Rattle.room_script.proofs.Sound.{scripts_are_sound}
-use Rattle.room_run.specs.declared.run.Totals.{Totals}
-use Rattle.room_run.specs.Emulate.{IsTraceOf}
+use Rattle.room_run.specs.Emulate.{IsAccepted}
 use Rattle.room_run.specs.Causal.{AgreeBefore}
 use Rattle.room_run.proofs.Causality.{traces_are_causal}
 use Rattle.expect_text.specs.Line.{cut_script}
 use Rattle.expect_run.specs.Cuts.{IsCut, is_early}
 use Rattle.expect_run.proofs.Cuts.{cuts_are_read}
-use Rattle.judge_laws.specs.States.{agree_until, CutTracesAgree, IsStateLine, StatesAreOfRuns, device_of}
-use Rattle.judge_laws.proofs.States.{state_lines_are_read}
+use Rattle.expect_run.specs.States.{device_of}
+use Rattle.judge_laws.specs.States.{agree_until, CutTracesAgree, IsStateLine, StatesAreOfRuns}
+use Rattle.judge_laws.proofs.Going.{same_course, same_plan}
+use Rattle.judge_laws.proofs.States.{said_is}
 
 -- at the time or later
 abbrev is_late : ℕ → TimedEvent → Bool
@@ -108,30 +107,20 @@ until_low : (time : ℕ) (pin : Option ℕ) → agree_until time pin ≤ time
 until_low time None = omega arith
 until_low time (Some from) = omega arith
 
-same_course : (a b : Course) → ◌≡◌ {A = Result Course (At ScriptCause)} (Ok a) (Ok b) → a ≡ b
-same_course a b e = cc
-
-same_ok : {F : Type 0} (p q : Plan) (r : Result Plan F) → r ≡ Ok p → r ≡ Ok q → q ≡ p
-same_ok p q r a b = cc
-
--- the texts of the cut script spell the same topology, and the course that ends at the time
-same_plan : (topology script other x y : List ℕ) (s t : Totals) → (p : IsTraceOf topology script x s) → (q : IsTraceOf topology other y t) → q.plan ≡ p.plan
-same_plan topology script other x y s t p q = same_ok p.plan q.plan (topology_of topology) p.accepted.plan_is q.accepted.plan_is
-
-cut_is : (topology script x y : List ℕ) (s t : Totals) (time : ℕ) → time ≤ latest_event → (p : IsTraceOf topology script x s) → (q : IsTraceOf topology (cut_script time script) y t)
-    → IsCut time p.course q.course
-cut_is topology script x y s t time low p q =
-    let cut = cuts_are_read p.plan.tree time script p.course low p.accepted.course_is in
-    let other = subst (λ (l : Plan). IsScriptRead l.tree (cut_script time script) (Ok q.course)) (same_plan topology script (cut_script time script) x y s t p q) q.accepted.course_is in
-    let same : q.course ≡ cut.0 = same_course q.course cut.0 (one_script p.plan.tree (cut_script time script) cut.0 (Ok q.course) cut.2 other) in
-    subst (λ (c : Course). IsCut time p.course c) (sym same) cut.1
+-- the texts of the cut script spell the course that ends at the time
+cut_is : (topology script : List ℕ) (time : ℕ) (plan other : Plan) (course cut : Course) → time ≤ latest_event → IsAccepted topology script plan course → IsAccepted topology (cut_script time script) other cut
+    → IsCut time course cut
+cut_is topology script time plan other course cut low a b =
+    let early = cuts_are_read plan.tree time script course low a.course_is in
+    let read = subst (λ (l : Plan). IsScriptRead l.tree (cut_script time script) (Ok cut)) (same_plan plan other (topology_of topology) a.plan_is b.plan_is) b.course_is in
+    let same : cut ≡ early.0 = same_course cut early.0 (one_script plan.tree (cut_script time script) early.0 (Ok cut) early.2 read) in
+    subst (λ (c : Course). IsCut time course c) (sym same) early.1
 
 pub states_are_of_runs : StatesAreOfRuns
 states_are_of_runs topology plain text totals time device state low p s = record {
-  plan_is = same_plan topology plain (cut_script time plain) text s.trace totals s.totals p s.run;
-  course_is = cut_is topology plain text s.trace totals s.totals time low p s.run;
-  line = subst (IsStateLine (device_of device s.run.trace.run.last.net.devices)) (sym s.state_is)
-      (state_lines_are_read topology (cut_script time plain) s.trace s.totals s.run device);
+  plan_is = same_plan p.plan s.run.plan (topology_of topology) p.accepted.plan_is s.run.accepted.plan_is;
+  course_is = cut_is topology plain time p.plan s.run.plan p.course s.run.course low p.accepted s.run.accepted;
+  line = subst (IsStateLine (device_of device s.last.net.devices)) (sym s.state_is) (said_is (device_of device s.last.net.devices));
 }
 
 -- at an instant or later
@@ -141,7 +130,7 @@ late_ones until events =
 
 pub cut_traces_agree : CutTracesAgree
 cut_traces_agree topology script x y s t time low p within q =
-    let cut = cut_is topology script x y s t time low p q in
+    let cut = cut_is topology script time p.plan q.plan p.course q.course low p.accepted q.accepted in
     let until = agree_until time cut.pin in
     let soon = until_low time cut.pin in
     let sound = scripts_are_sound p.plan.tree script p.course p.accepted.course_is in

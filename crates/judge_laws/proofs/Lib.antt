@@ -1,14 +1,12 @@
-pub mod Lines
-pub mod Rounds
-pub mod Others
+pub mod Going
 pub mod Names
-pub mod Script
-pub mod Run
 pub mod States
 pub mod Agree
 pub mod Ended
 pub mod Read
 pub mod Declared
+pub mod TracesTold
+pub mod LinesTold
 pub mod Said
 pub mod Bare
 pub mod Alike

@@ -5,9 +5,6 @@ use Rattle.message_table.specs.declared.words.Reason.TheVariants.{Unrecognized}
 use Rattle.message_table.specs.declared.message.Decoded.{Decoded}
 use Rattle.message_table.specs.declared.message.Decoded.TheVariants.{Known, Poll, Short, Unknown as NoName}
 use Rattle.message_table.specs.Table.{decoded_of}
-use Rattle.edid_tree.specs.Node.{Node}
-use Rattle.edid_tree.specs.Tree.{with_plug}
-use Rattle.edid_tree.specs.declared.plug.Plug.{Plug as PlugRecord}
 use Rattle.line_rounds.specs.declared.Outcome.{Outcome}
 use Rattle.line_rounds.specs.Round.{close_in, fate_in}
 use Rattle.line_frames.specs.Blocks.{frame_in}
@@ -40,7 +37,6 @@ use Rattle.room_net.specs.State.{NetState, each_from}
 use Rattle.room_net.specs.Apply.{net_after, applied_unless, changed_at, event_fault, named_frame, after_sent}
 use Rattle.room_net.specs.Step.{after_round, device_after, followed_in, followed_unless, is_among, is_sent, after_fate}
 use Rattle.room_driven.specs.Driven.{names_of}
-use Rattle.driven_laws.specs.Dumps.{names_in}
 use Rattle.driven_laws.proofs.Names.{name-queued, name-reported_by, names-each}
 
 two : (t : Bool) (x y : State) (name : List ℕ) → x.name ≡ name → y.name ≡ name → (if t then x else y).name ≡ name
@@ -154,26 +150,3 @@ pub names_round : (s : NetState) (begin : ℕ) (o : Outcome) → names_of (after
 names_round s begin o =
     names-all 0 (λ number d. device_after (contends s.rest begin d) (is_sent s.rest begin o s.devices) o number d) s.devices
     (λ number d. name-after (contends s.rest begin d) (is_sent s.rest begin o s.devices) o number d)
-
--- ---- the tree
-
-names-plug : (tree : List Node) (child : ℕ) (plug : Option PlugRecord) → names_in (with_plug tree child plug) ≡ names_in tree
-names-plug [] child plug = refl
-names-plug (node ∷ tree) zero plug = refl
-names-plug (node ∷ tree) (suc child) plug = ap (λ ns. node.name ∷ ns) (names-plug tree child plug)
-
-tree-sent : (at device : ℕ) (frame : Option (List ℕ)) (ticket : Ticket) (s : NetState) → names_in (after_sent at device frame ticket s).tree ≡ names_in s.tree
-tree-sent at device None ticket s = refl
-tree-sent at device (Some frame) ticket s = refl
-
-tree-unless : (fault : Option EventError) (at : ℕ) (event : Event) (s : NetState) → names_in (applied_unless fault at event s).tree ≡ names_in s.tree
-tree-unless (Some error) at event s = refl
-tree-unless None at (Plug child parent port) s = names-plug s.tree child _
-tree-unless None at (Unplug child) s = names-plug s.tree child _
-tree-unless None at (KeyEvent device key press) s = refl
-tree-unless None at (Send device frame ticket) s = refl
-tree-unless None at (SendNamed device names frame ticket) s = tree-sent at device (named_frame s.devices names frame) ticket s
-tree-unless None at (Outside device act) s = refl
-
-pub tree_applied : (at : ℕ) (event : Event) (s : NetState) → names_in (net_after at event s).tree ≡ names_in s.tree
-tree_applied at event s = tree-unless (event_fault s event) at event s

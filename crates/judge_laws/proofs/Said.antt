@@ -3,7 +3,7 @@ use Rattle.std.proofs.Common.{◌≡◌, ℕ, zero, suc, ◌+◌, ◌-◌, nat_l
 use Rattle.std.proofs.lemmas.Bool.Decides.{nat_tests}
 use Rattle.std.proofs.lemmas.List.Elements.{All-append, All-cons, All-nil}
 use Rattle.std.specs.Prelude.{decimal}
-use Rattle.std.specs.List.{All, cons_option, filter_map}
+use Rattle.std.specs.List.{All, cons_option, filter_map, flat_map}
 use Rattle.line_wave.specs.Line.{Line, is_fall, line_of}
 use Rattle.line_frames.specs.Blocks.{frame_by, frame_in}
 use Rattle.line_frames.specs.declared.Ending.{Ending}
@@ -14,19 +14,17 @@ use Rattle.line_reading.specs.Readings.{listed_on, reading_from, readings_from}
 use Rattle.line_rounds.specs.declared.Loser.{Loser}
 use Rattle.line_rounds.specs.declared.Outcome.{Outcome}
 use Rattle.line_rounds.specs.declared.Seat.{Seat}
-use Rattle.line_rounds.specs.Round.{all_known, losers_from, lost_at, out_of, sends_in, survivors_from}
+use Rattle.line_rounds.specs.Round.{IsRound, all_known, losers_from, lost_at, out_of, sends_in, survivors_from}
 use Rattle.message_text.specs.ReadingText.{is_broadcast, is_complete, last_bit, reported_by, reported_frame, reported_text, verdict_by, verdict_in, verdict_text}
 use Rattle.capture_monitor.specs.Watch.{reading_as}
-use Rattle.edid_core.specs.declared.edid.Edid.{Edid}
 use Rattle.device_core.specs.State.{State}
 use Rattle.room_net.specs.State.{NetState, first_net}
 use Rattle.room_net.specs.Step.{seat_of, seats_of}
-use Rattle.room_script.specs.declared.script.TimedEvent.{TimedEvent}
 use Rattle.room_trace.specs.TraceText.{comma_list, loser_text, name_at}
-use Rattle.room_run.specs.declared.run.Reporting.TheVariants.{Trace}
 use Rattle.room_run.specs.declared.run.Turn.{Turn}
 use Rattle.room_run.specs.declared.run.Turn.TheVariants.{Stop, Apply, Round}
-use Rattle.room_run.specs.Run.{Config, IsEventTurn, IsTurnBy, Leads, start, turn_at}
+use Rattle.room_run.specs.Happening.{Goes, Happening, HappensBy}
+use Rattle.room_run.specs.Run.{Config, start, turn_at}
 use Rattle.room_driven.specs.Driven.{names_of}
 use Rattle.driven_laws.proofs.Names.{names_started}
 use Rattle.expect_text.specs.Bits.{FitsEnding}
@@ -37,16 +35,17 @@ use Rattle.expect_text.specs.Said.{IsSaid, endings_of}
 use Rattle.expect_text.specs.Senders.{AreOf, IsLoser, IsSender, IsSenders, IsTail, Judged, listed}
 use Rattle.expect_text.specs.Senders.Judged.{Run, Capture}
 use Rattle.expect_text.proofs.Naming.{names_are_met}
-use Rattle.expect_judge.specs.Seen.{end_by}
+use Rattle.expect_judge.specs.Seen.{end_seen}
 use Rattle.expect_judge.specs.Told.{RoundLine}
 use Rattle.expect_judge.specs.declared.seen.TimeSpan.{TimeSpan}
-use Rattle.judge_laws.specs.ReadBack.{RoundReported, ending_reported, round_read, rounds_by, rounds_in, rounds_reported}
-use Rattle.judge_laws.specs.Said.{ReadingsAreSaid, RefusedAreNeverSeen, RoundsAreSaid, reading_said}
+use Rattle.expect_told.specs.Said.{ending_said, reading_said}
+use Rattle.expect_told.specs.Turns.{round_told, rounds_of}
+use Rattle.judge_laws.specs.Said.{ReadingsAreSaid, RefusedAreNeverSeen, RoundsAreSaid}
 use Rattle.judge_laws.proofs.Declared.{names_are_declared}
 use Rattle.judge_laws.proofs.Names.{names_applied, names_round}
 use Rattle.judge_laws.proofs.Ended.{IsWay}
 use Rattle.judge_laws.proofs.Read.{IsHeard, frame_there, out_within, reading_cut, reading_heard}
-use Rattle.judge_laws.proofs.Run.{traces_are_read_back}
+use Rattle.judge_laws.proofs.TracesTold.{said_parts}
 
 -- ---- who sent, in the topology's order
 
@@ -131,7 +130,7 @@ tail_is names devices o by out = (
 
 -- by how the reading ended
 abbrev said_of : Reading → List ℕ → Ending → List ℕ
-said_of r tail ending = ending_reported ending ++ (reported_by (is_complete ending) r ++ (verdict_in (is_complete ending) r ++ tail))
+said_of r tail ending = ending_said ending ++ (reported_by (is_complete ending) r ++ (verdict_in (is_complete ending) r ++ tail))
 
 -- where the endings stand that a line can have
 record HasPlaces (who : Judged) : Type 0 where
@@ -174,7 +173,7 @@ module _ (who : Judged) (places : HasPlaces who) (r : Reading) (tail : List ℕ)
 -- ---- the readings of a line
 
 bare : (r : Reading) → said_of r [] r.ending ≡ reading_said r
-bare r = ap (λ (t : List ℕ). ending_reported r.ending ++ (reported_text r ++ t)) (append-nil (verdict_text r))
+bare r = refl
 
 open_said : (begin at : ℕ) (bits : List Bool) → FitsEnding Open bits → IsSaid Capture (reading_said (reading_as (record { begin = begin; reported = record { bits = bits; ending = Open; at = at } })))
 open_said begin at bits fits = inr (Open, 4, bits, [], refl, fits, refl, refl)
@@ -208,58 +207,50 @@ readings_are_said low end = from_said low end (end + 1) 0
 
 -- ---- turn by turn
 
-abbrev AreSaid : List (List ℕ) → List RoundReported → Type 0
-AreSaid names rs = All (λ r. IsSaid (Run names) (round_read r).reported) rs
+abbrev AreSaid : List (List ℕ) → List RoundLine → Type 0
+AreSaid names rs = All (λ r. IsSaid (Run names) r.reported) rs
 
 none_said : (names : List (List ℕ)) → AreSaid names []
-none_said names = All-nil (λ r. IsSaid (Run names) (round_read r).reported)
+none_said names = All-nil (λ r. IsSaid (Run names) r.reported)
 
 seats_many : (s : NetState) (begin : ℕ) (devices : List State) → length (map (seat_of s.rest begin) devices) ≡ length (names_of devices)
 seats_many s begin [] = refl
 seats_many s begin (d ∷ devices) = let more = seats_many s begin devices in omega (arith, more)
 
-round_said : (names : List (List ℕ)) (edid : Option Edid) (begin : ℕ) (c d : Config) (reported : List ℕ) → (t : IsTurnBy (Trace edid) (Round begin) c reported d) → names_of c.net.devices ≡ names
-    → (names_of d.net.devices ≡ names) × AreSaid names (rounds_by edid (Round begin) c reported d t)
-round_said names edid begin c d reported t h =
-    let o = t.0.outcome in
-    let round = t.0.next.round in
+round_said : (names : List (List ℕ)) (begin : ℕ) (s : NetState) (o : Outcome) → IsRound (seats_of s begin) begin s.pulses o → names_of s.devices ≡ names → IsSaid (Run names) (round_told false s.devices o).reported
+round_said names begin s o round h =
     let low : Line = line_of o.wave in
-    let seats = seats_of c.net begin in
-    let same : names_of d.net.devices ≡ names = ap (λ (s : NetState). names_of s.devices) t.0.next.after_is ∙ names_round c.net begin o ∙ h in
-    let many : length seats ≡ length names = seats_many c.net begin c.net.devices ∙ ap length h in
-    let from : AreFrom d.net.devices 0 names = subst (AreFrom d.net.devices 0) same (all_from d.net.devices) in
-    let by = subst (λ (xs : List ℕ). AreOf IsSender names (map (name_at d.net.devices) xs)) (sym round.survivors) (senders_are d.net.devices low begin 0 seats names many from) in
-    let out = subst (λ (xs : List Loser). AreOf IsLoser names (map (loser_text d.net.devices) xs)) (sym round.losers) (losers_are d.net.devices low begin 0 seats names many from) in
-    let r : RoundReported = record { devices = d.net.devices; outcome = o } in
+    let seats = seats_of s begin in
+    let many : length seats ≡ length names = seats_many s begin s.devices ∙ ap length h in
+    let from : AreFrom s.devices 0 names = subst (AreFrom s.devices 0) h (all_from s.devices) in
+    let by = subst (λ (xs : List ℕ). AreOf IsSender names (map (name_at s.devices) xs)) (sym round.survivors) (senders_are s.devices low begin 0 seats names many from) in
+    let out = subst (λ (xs : List Loser). AreOf IsLoser names (map (loser_text s.devices) xs)) (sym round.losers) (losers_are s.devices low begin 0 seats names many from) in
     let heard : IsHeard o.reading.bits.items o.reading.ending =
-    subst (λ (x : Ending). IsHeard o.reading.bits.items x) (sym round.ending) (subst (λ (xs : List Bool). IsHeard xs (reading_of low begin).ending) (sym round.bits) (reading_heard low begin)) in (
-      same,
-      All-cons (λ r. IsSaid (Run names) (round_read r).reported) r []
-          (heard_said (Run names) (run_places names) o.reading (tail_of d.net.devices o) (tail_is names d.net.devices o by out) heard) (none_said names),
-    )
+    subst (λ (x : Ending). IsHeard o.reading.bits.items x) (sym round.ending) (subst (λ (xs : List Bool). IsHeard xs (reading_of low begin).ending) (sym round.bits) (reading_heard low begin)) in
+    subst (λ (said : List ℕ). IsSaid (Run names) said) (sym (said_parts s.devices o)) (heard_said (Run names) (run_places names) o.reading (tail_of s.devices o) (tail_is names s.devices o by out) heard)
 
-event_said : (names : List (List ℕ)) (edid : Option Edid) (at : ℕ) (events : List TimedEvent) (c d : Config) (reported : List ℕ) → IsEventTurn (Trace edid) at events c reported d
-    → names_of c.net.devices ≡ names → names_of d.net.devices ≡ names
-event_said names edid at [] c d reported t h = ap (λ (x : Config). names_of x.net.devices) t.1 ∙ h
-event_said names edid at (e ∷ events) c d reported t h = ap (λ (x : Config). names_of x.net.devices) t.1 ∙ names_applied at e.event c.net ∙ h
+turn_said : (names : List (List ℕ)) (turn : Turn) (c d : Config) (x : Happening) → HappensBy turn c x d → names_of c.net.devices ≡ names
+    → (names_of d.net.devices ≡ names) × AreSaid names (rounds_of false x)
+turn_said names Stop c d x h same = absurd h
+turn_said names (Apply at) c d x h same = (
+  ap (λ (k : Config). names_of k.net.devices) h.after ∙ names_applied at h.event.event c.net ∙ same,
+  subst (λ (y : Happening). AreSaid names (rounds_of false y)) (sym h.is) (none_said names),
+)
+turn_said names (Round begin) c d x h same = (
+  ap (λ (s : NetState). names_of s.devices) h.next.after_is ∙ names_round c.net begin h.outcome ∙ same,
+  subst (λ (y : Happening). AreSaid names (rounds_of false y)) (sym h.is)
+      (All-cons (λ r. IsSaid (Run names) r.reported) (round_told false c.net.devices h.outcome) [] (round_said names begin c.net h.outcome h.next.round same) (none_said names)),
+)
 
-turn_said : (names : List (List ℕ)) (edid : Option Edid) (turn : Turn) (c d : Config) (reported : List ℕ) → (t : IsTurnBy (Trace edid) turn c reported d) → names_of c.net.devices ≡ names
-    → (names_of d.net.devices ≡ names) × AreSaid names (rounds_by edid turn c reported d t)
-turn_said names edid Stop c d reported t h = absurd t
-turn_said names edid (Apply at) c d reported t h = (event_said names edid at c.events c d reported t h, none_said names)
-turn_said names edid (Round begin) c d reported t h = round_said names edid begin c d reported t h
-
-turns_said : (names : List (List ℕ)) (edid : Option Edid) (end turns : ℕ) (c d : Config) (text : List ℕ) (l : Leads (Trace edid) end turns c text d) → names_of c.net.devices ≡ names
-    → AreSaid names (rounds_in edid end turns c text d l)
-turns_said names edid end zero c d text l h = none_said names
-turns_said names edid end (suc turns) c d text l h =
-    let one = turn_said names edid (turn_at end c) c l.0 l.1 l.3 h in
-    All-append (λ r. IsSaid (Run names) (round_read r).reported) (rounds_by edid (turn_at end c) c l.1 l.0 l.3) (rounds_in edid end turns l.0 l.2 d l.4) one.1
-    (turns_said names edid end turns l.0 d l.2 l.4 one.0)
+turns_said : (names : List (List ℕ)) (end : ℕ) (xs : List Happening) (c d : Config) → Goes end c xs d → names_of c.net.devices ≡ names → AreSaid names (flat_map (rounds_of false) xs)
+turns_said names end [] c d h same = none_said names
+turns_said names end (x ∷ xs) c d (mid, step, rest) same =
+    let one = turn_said names (turn_at end c) c mid x step same in
+    All-append (λ r. IsSaid (Run names) r.reported) (rounds_of false x) (flat_map (rounds_of false) xs) one.1 (turns_said names end xs mid d rest one.0)
 
 pub rounds_are_said : RoundsAreSaid
-rounds_are_said topology script text totals p =
-    turns_said (declared_of topology) p.edid p.course.end p.trace.run.turns (start (first_net p.plan.tree p.course.pulses) p.course.events) p.trace.run.last p.trace.run.body p.trace.run.leads
+rounds_are_said topology plain happened last p =
+    turns_said (declared_of topology) p.course.end happened (start (first_net p.plan.tree p.course.pulses) p.course.events) last p.goes
     (names_started p.plan.tree p.course.pulses ∙ names_are_declared topology p.plan p.accepted.plan_is)
 
 -- ---- patterns that are refused
@@ -273,7 +264,7 @@ unmet names pattern said is h = by (for_names (holds_in (last_word said)) (λ p.
     by false e = refl
     by true e = absurd (true≢false (sym (names_are_met.only (Run names) pattern said (holds_in (last_word said)) is e) ∙ h))
 
-unseen : (span : TimeSpan) (pattern : List ℕ) (l : RoundLine) → meets pattern l.reported ≡ false → end_by span pattern (Some l) ≡ None
+unseen : (span : TimeSpan) (pattern : List ℕ) (l : RoundLine) → meets pattern l.reported ≡ false → end_seen span pattern l ≡ None
 unseen span pattern l none =
     ap (λ (m : Bool). if nat_le span.from l.begin && nat_le l.at span.to && m then Some l.at else None) none ∙ never (nat_le span.from l.begin && nat_le l.at span.to)
   where
@@ -281,15 +272,13 @@ unseen span pattern l none =
     never true = refl
     never false = refl
 
-not_seen : (names : List (List ℕ)) (pattern : List ℕ) (span : TimeSpan) (rs : List RoundReported) → AreSaid names rs → is_meetable (Run names) pattern ≡ false
-    → filter_map (λ r. end_by span pattern (Some (round_read r))) rs ≡ []
+not_seen : (names : List (List ℕ)) (pattern : List ℕ) (span : TimeSpan) (rs : List RoundLine) → AreSaid names rs → is_meetable (Run names) pattern ≡ false → filter_map (end_seen span pattern) rs ≡ []
 not_seen names pattern span [] said h = refl
 not_seen names pattern span (r ∷ rs) said h =
-    let none = unmet names pattern (round_read r).reported (said 0 r (omega arith)) h in
-    ap (λ (o : Option ℕ). cons_option o (filter_map (λ r. end_by span pattern (Some (round_read r))) rs)) (unseen span pattern (round_read r) none)
+    let none = unmet names pattern r.reported (said 0 r (omega arith)) h in
+    ap (λ (o : Option ℕ). cons_option o (filter_map (end_seen span pattern) rs)) (unseen span pattern r none)
     ∙ not_seen names pattern span rs (λ k x l. said (suc k) x (omega arith)) h
 
 pub refused_are_never_seen : RefusedAreNeverSeen
-refused_are_never_seen topology script text pattern totals span p small h =
-    (traces_are_read_back topology script text totals p small).seen span pattern
-    ∙ not_seen (declared_of topology) pattern span (rounds_reported topology script text totals p) (rounds_are_said topology script text totals p) h
+refused_are_never_seen topology plain pattern happened last span p h =
+    not_seen (declared_of topology) pattern span (flat_map (rounds_of false) happened) (rounds_are_said topology plain happened last p) h

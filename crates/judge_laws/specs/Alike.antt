@@ -1,26 +1,31 @@
 -- A capture of a run is judged as the run is (own).
-use Rattle.std.specs.Prelude.{◌≡◌, ℕ, ◌+◌, ◌<◌, ◌^◌, not, Bool, true, codes, drop, length, List, [], ◌∷◌, Option, None, Result, Ok, Err}
+use Rattle.std.specs.Prelude.{◌≡◌, ℕ, ◌+◌, not, Bool, true, false, codes, drop, length, map, List, [], ◌∷◌, Option, None, Result, Ok, Err}
 use Rattle.std.specs.List.{list_all}
 use Rattle.text_core.specs.Lines.{lines_of}
 use Rattle.text_core.specs.Words.{words_of}
 use Rattle.text_core.specs.declared.at.AtWord.{AtWord}
 use Rattle.capture_core.specs.Edges.{Captured}
 use Rattle.capture_forms.specs.declared.form.CaptureForm.{CaptureForm}
-use Rattle.capture_monitor.specs.Watch.{as_file, file_readings, readings_text}
+use Rattle.capture_monitor.specs.Watch.{as_file, file_readings, reading_as}
 use Rattle.capture_laws.specs.Formats.{IsReadText}
 use Rattle.room_run.specs.declared.run.Totals.{Totals}
-use Rattle.room_run.specs.Emulate.{IsLineOf, IsTraceOf}
+use Rattle.room_run.specs.Emulate.{IsLineOf}
+use Rattle.room_run.specs.Happening.{Happening}
+use Rattle.room_run.specs.Run.{Config}
 use Rattle.expect_text.specs.Fits.{fits}
 use Rattle.expect_text.specs.Form.{ExpectLine, form_in}
 use Rattle.expect_text.specs.Form.ExpectLine.{Other, Rounds, State, Refused, Unremarked}
 use Rattle.expect_text.specs.Line.{onset_in, unlabelled_words}
 use Rattle.expect_text.specs.Names.{named_in}
 use Rattle.expect_text.specs.declared.form.ExpectCause.{ExpectCause}
+use Rattle.expect_judge.specs.Told.{EventLine, RoundLine, Told}
 use Rattle.expect_judge.specs.Judged.{other_judged, verdicts_of}
 use Rattle.expect_judge.specs.Named.{is_labelled}
 use Rattle.expect_judge.specs.declared.judge.Judged.{Judged}
 use Rattle.expect_judge.specs.Seen.{ends_seen}
 use Rattle.expect_judge.specs.declared.seen.TimeSpan.{TimeSpan}
+use Rattle.expect_told.specs.Said.{reading_told}
+use Rattle.expect_told.specs.Turns.{IsRunOf, told_by}
 
 abbrev pub is_no_by : List ℕ → Bool
 is_no_by word = not (fits word (codes "by"))
@@ -29,20 +34,24 @@ is_no_by word = not (fits word (codes "by"))
 abbrev pub asks_no_sender : List ℕ → Bool
 asks_no_sender pattern = list_all is_no_by (drop 1 (words_of pattern))
 
--- In each span of time as many rounds of both texts meet a pattern, and they end at the same instants: of patterns without names that
+-- In each span of time as many of both rounds meet a pattern, and they end at the same instants: of patterns without names that
 -- can't ask who sent.
-abbrev pub AreSeenAlike : List ℕ → List ℕ → Type 0
+abbrev pub AreSeenAlike : List RoundLine → List RoundLine → Type 0
 AreSeenAlike x y = (pattern : List ℕ) (span : TimeSpan) → named_in pattern ≡ None → asks_no_sender pattern ≡ true → ends_seen y span pattern ≡ ends_seen x span pattern
+
+-- what is told of each reading of a capture, in order
+abbrev pub readings_told : Captured → List RoundLine
+readings_told c = map (λ x. reading_told (reading_as x)) (file_readings (as_file c))
 
 -- So are the readings of the capture of a run, in any format, and the rounds of the run.
 abbrev pub CapturesAreSeenAlike : Type 0
-CapturesAreSeenAlike = (format : CaptureForm) (topology script x y : List ℕ) (s t : Totals) → IsTraceOf topology script x s → IsLineOf format topology script y t → length script < 2 ^ 63
-    → (c : Captured) × IsReadText format y c × AreSeenAlike x (readings_text (file_readings (as_file c)))
+CapturesAreSeenAlike = (format : CaptureForm) (topology plain text : List ℕ) (totals : Totals) (happened : List Happening) (last : Config) → IsRunOf topology plain happened last → IsLineOf format topology plain text totals
+    → (c : Captured) × IsReadText format text c × AreSeenAlike (told_by false happened).rounds (readings_told c)
 
 -- ---- whole files
 
 -- The label of an event or a pulse names the same instant by both, and the pattern of an expectation of rounds is such a one.
-abbrev pub CanBeAlike : List ℕ → List ℕ → ℕ → Bool → Option ℕ → Result ExpectLine (AtWord ExpectCause) → Type 0
+abbrev pub CanBeAlike : List EventLine → List EventLine → ℕ → Bool → Option ℕ → Result ExpectLine (AtWord ExpectCause) → Type 0
 CanBeAlike x y number named onset (Err cause) = Unit {0}
 CanBeAlike x y number named onset (Ok Other) = named ≡ true → other_judged y number onset ≡ other_judged x number onset
 CanBeAlike x y number named onset (Ok (Rounds quantity window pattern)) = (named_in pattern ≡ None) × (asks_no_sender pattern ≡ true)
@@ -51,7 +60,7 @@ CanBeAlike x y number named onset (Ok (Refused name word)) = Unit {0}
 CanBeAlike x y number named onset (Ok (Unremarked pattern)) = Unit {0}
 
 -- that of each of these lines, of which the first has this number
-abbrev pub AreAllAlike : List ℕ → List ℕ → ℕ → List (List ℕ) → Type 0
+abbrev pub AreAllAlike : List EventLine → List EventLine → ℕ → List (List ℕ) → Type 0
 AreAllAlike x y number [] = Unit {0}
 AreAllAlike x y number (line ∷ lines) =
     CanBeAlike x y number (is_labelled line) (onset_in (unlabelled_words (words_of line))) (form_in (unlabelled_words (words_of line))) × AreAllAlike x y (number + 1) lines
@@ -73,5 +82,5 @@ AreSameOfRounds (line ∷ lines) (j ∷ js) (k ∷ ks) = IsSameOfRounds (form_in
 
 -- Then the expectations of rounds of a file, each with its window, hold by one exactly where they hold by the other, whatever states there are.
 abbrev pub FilesAreJudgedAlike : Type 0
-FilesAreJudgedAlike = (script x y : List ℕ) (states others : List (List ℕ)) → AreSeenAlike x y → AreAllAlike x y 1 (lines_of script)
+FilesAreJudgedAlike = (script : List ℕ) (x y : Told) (states others : List (List ℕ)) → AreSeenAlike x.rounds y.rounds → AreAllAlike x.events y.events 1 (lines_of script)
     → length states ≡ length (lines_of script) → length others ≡ length (lines_of script) → AreSameOfRounds (lines_of script) (verdicts_of script x states) (verdicts_of script y others)

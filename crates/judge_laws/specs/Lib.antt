@@ -1,4 +1,4 @@
-pub mod ReadBack
+pub mod Told
 pub mod States
 pub mod Said
 pub mod Alike

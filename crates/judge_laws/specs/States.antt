@@ -1,7 +1,5 @@
 -- The states that a script speaks of are those of its run, cut at their time (own).
 use Rattle.std.specs.Prelude.{◌≡◌, ℕ, ◌≤◌, codes, List, [], ◌++◌, filter, min, Option, Some, None}
-use Rattle.std.specs.List.{find}
-use Rattle.std.specs.Str.{bytes_eq}
 use Rattle.line_wave.specs.Bounds.{latest_event}
 use Rattle.device_core.specs.State.{State}
 use Rattle.room_net.specs.State.{first_net}
@@ -13,35 +11,22 @@ use Rattle.room_run.specs.Emulate.{IsTraceOf}
 use Rattle.room_run.specs.Certain.{AllBefore}
 use Rattle.room_run.specs.Causal.{BeginsWith, before_reported}
 use Rattle.expect_text.specs.Line.{cut_script}
-use Rattle.expect_judge.specs.Told.{state_line as line_read}
 use Rattle.expect_run.specs.Cuts.{IsCut, is_early}
-use Rattle.expect_run.specs.States.{IsStateAt}
+use Rattle.expect_run.specs.States.{IsStateAt, device_of}
 
--- ---- the state lines of a trace
-
--- the first device of a name
-abbrev pub device_of : List ℕ → List State → Option State
-device_of name devices = find (λ d. bytes_eq d.name name) devices
+-- ---- runs that end earlier
 
 -- a device's state line without its line feed; of no device, nothing
 abbrev pub IsStateLine : Option State → List ℕ → Type 0
 IsStateLine None line = line ≡ []
 IsStateLine (Some d) line = line ++ codes "\n" ≡ state_line d
 
--- The line of a name that is read of a trace reports the state of the device of that name at the end of the run, and of a name that
--- no device has none is read.
-abbrev pub StateLinesAreRead : Type 0
-StateLinesAreRead = (topology script text : List ℕ) (totals : Totals) → (p : IsTraceOf topology script text totals) → (name : List ℕ)
-    → IsStateLine (device_of name p.trace.run.last.net.devices) (line_read text name)
-
--- ---- runs that end earlier
-
 -- The state that a script speaks of, of a device at a time, is told by a run of the same topology: of the script's events before
 -- the time and all its pulses and pulls, which ends at the time. It is the device's state at the end of that run.
 pub record IsStateOfRun (topology plain text : List ℕ) (totals : Totals) (time : ℕ) (device state : List ℕ) (p : IsTraceOf topology plain text totals) (s : IsStateAt topology plain time device state) : Type 0 where
   pub plan_is : s.run.plan ≡ p.plan
   pub course_is : IsCut time p.course s.run.course
-  pub line : IsStateLine (device_of device s.run.trace.run.last.net.devices) state
+  pub line : IsStateLine (device_of device s.last.net.devices) state
 
 abbrev pub StatesAreOfRuns : Type 0
 StatesAreOfRuns = (topology plain text : List ℕ) (totals : Totals) (time : ℕ) (device state : List ℕ) → time ≤ latest_event

@@ -1,22 +1,14 @@
-//! Laws of what is read of a trace.
+//! Laws of what is told of a run.
 ghost use Rattle.judge_laws.specs.Alike.{CapturesAreSeenAlike, FilesAreJudgedAlike};
-ghost use Rattle.judge_laws.specs.ReadBack.{LinesReportRounds, TracesAreReadBack};
 ghost use Rattle.judge_laws.specs.Said.{NamesAreDeclared, ReadingsAreSaid, RefusedAreNeverSeen, RoundsAreSaid};
-ghost use Rattle.judge_laws.specs.States.{CutTracesAgree, StateLinesAreRead, StatesAreOfRuns};
+ghost use Rattle.judge_laws.specs.Told.{LinesReportRounds, TracesAreTold};
+ghost use Rattle.judge_laws.specs.States.{CutTracesAgree, StatesAreOfRuns};
 
-/// The rounds and the events that are read of a trace are those of its run, in order, each once.
-pub fn traces_are_read_back()
-    ensures { TracesAreReadBack }
-{}
+use room_run::turns_tell_the_text;
 
-/// Two rounds whose lines in a trace are the same text are read as the same round.
+/// Two rounds whose lines in a trace are the same text are told as the same round.
 pub fn lines_report_rounds()
     ensures { LinesReportRounds }
-{}
-
-/// The line of a device's state that is read of a trace says that device's state at the end of the run.
-pub fn state_lines_are_read()
-    ensures { StateLinesAreRead }
 {}
 
 /// The state that a script speaks of, at a time, is that at the end of the run that its events before the time and its pulses
@@ -55,8 +47,16 @@ pub fn captures_are_seen_alike()
     ensures { CapturesAreSeenAlike }
 {}
 
-/// Expectations of rounds of a file whose patterns are seen alike by two traces, and whose labels of events name the same instants
-/// by both, are judged alike.
+/// Expectations of rounds of a file whose patterns are seen alike by what is told of two runs, and whose labels of events name the
+/// same instants by both, are judged alike.
 pub fn files_are_judged_alike()
     ensures { FilesAreJudgedAlike }
 {}
+
+/// What is told of a run is its trace, line by line.
+pub fn traces_are_told()
+    ensures { TracesAreTold }
+{
+    // No effect at run time. The proof reads this law.
+    turns_tell_the_text();
+}

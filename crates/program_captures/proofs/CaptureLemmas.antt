@@ -4,7 +4,10 @@ use Rattle.line_reading.specs.Windows.{most_margin, standard, wider}
 use Rattle.line_reading.specs.declared.times.Windows.{Windows}
 use Rattle.capture_monitor.proofs.ReadBy.{standard_readings}
 use Rattle.capture_monitor.specs.Watch.{captured_by}
-use Rattle.follow_core.specs.Follow.{HasFollowed, IsHandedOn, Stops, listed_text, text_of}
+use Rattle.capture_smooth.proofs.Pairs.{smoothing}
+use Rattle.capture_through.specs.Through.{made_of}
+use Rattle.follow_core.specs.declared.reception.Reception.{Reception}
+use Rattle.follow_core.specs.Follow.{HasFollowed, IsHandedOn, Stops, listed_text, received, text_of}
 use Rattle.audit_core.specs.Audit.{audit_lines}
 use Rattle.audit_notes.specs.Lines.{AuditLine, has_remark, lines_text}
 use Rattle.audit_notes.specs.Lines.AuditLine.{Reading}
@@ -17,11 +20,11 @@ use Rattle.cli_words.specs.declared.choice.FollowChoice.{FollowChoice}
 use Rattle.program_captures.specs.declared.fault.MonitorFault.TheVariants as faults
 use Rattle.follow_audit.specs.declared.error.FollowAuditError.{FollowAuditError}
 use Rattle.cli_words.specs.declared.choice.FollowReport.TheVariants as reports
-use Rattle.program_captures.specs.Following.{FollowsTo, IsCauseOf, IsOfRemark, StopsAudit, StopsSo, fault_of}
+use Rattle.program_captures.specs.Following.{FollowsTo, IsCauseOf, IsOfRemark, StopsAudit, StopsSo, fault_of, reception_of}
 use Rattle.follow_core.specs.declared.error.FollowError.{FollowError}
 use Rattle.program_captures.specs.declared.fault.MonitorFault.{MonitorFault}
 use Rattle.std.specs.Io.KnownBytes.{Appends, append_known}
-use Rattle.program_captures.specs.Captures.{readings_at}
+use Rattle.program_captures.specs.Captures.{edges_kept, edges_turned, readings_at, turned_by, without_short}
 use Rattle.capture_core.specs.Edges.{Captured, line_of_edges}
 use Rattle.line_wave.specs.declared.Edge.{Edge}
 
@@ -64,28 +67,44 @@ nothing_more (Some xs) = ap Some (append-nil xs)
 put_below : (old below : Option (List ℕ)) (pending text : List ℕ) → pending ≡ [] → Appends old (append_known below pending) text → Appends old below text
 put_below old below pending text none put = subst (λ (new : Option (List ℕ)). Appends old new text) (ap (append_known below) none ∙ nothing_more below) put
 
-pub follows_to : (choice : FollowChoice) (name : List ℕ) (windows : Windows) (known old below : Option (List ℕ)) (pending : List ℕ) → windows ≡ wider (min choice.margin most_margin) → pending ≡ []
-    → HasFollowed choice.form name choice.written windows known old (append_known below pending) → FollowsTo (record choice { report = reports.Readings }) name known old below
-follows_to choice name windows known old below pending e none f = record {
-  input = f.input;
-  all = f.all;
-  text = text_of choice.written windows f.capture;
-  reported = (
-    map Reading (readings_at choice.margin f.capture),
-    (f.capture, f.read, (refl, λ strict. absurd (never strict))),
-    ap (listed_text choice.written) (readings_are choice.margin windows f.capture e),
-  );
-  put = put_below old below pending (text_of choice.written windows f.capture) none f.put;
-}
+-- what is made of a capture is its edges turned, and then without those that are too close
+made_is : (inverted : Bool) (glitch : ℕ) (edges : List Edge) → made_of inverted glitch edges ≡ edges_kept glitch (edges_turned inverted edges)
+made_is false zero edges = smoothing.none edges
+made_is true zero edges = smoothing.none (edges_turned true edges)
+made_is false (suc n) edges = refl
+made_is true (suc n) edges = refl
+
+received_is : (choice : FollowChoice) (c : Captured) → received (reception_of choice) c ≡ without_short choice.glitch (turned_by choice.inverted c)
+received_is choice c = ap (λ (es : List Edge). let r : Captured = record { edges = es; end = c.end } in r) (made_is choice.inverted choice.glitch c.edges)
+
+-- its readings
+read_so : (choice : FollowChoice) (c : Captured) → captured_by (wider (min choice.margin most_margin)) (received (reception_of choice) c) ≡ readings_at choice.margin (without_short choice.glitch (turned_by choice.inverted c))
+read_so choice c = readings_are choice.margin (wider (min choice.margin most_margin)) (received (reception_of choice) c) refl ∙ ap (readings_at choice.margin) (received_is choice c)
+
+pub follows_to : (choice : FollowChoice) (name : List ℕ) (how : Reception) (known old below : Option (List ℕ)) (pending : List ℕ) → how ≡ reception_of choice → pending ≡ []
+    → HasFollowed choice.form name choice.written how known old (append_known below pending) → FollowsTo (record choice { report = reports.Readings }) name known old below
+follows_to choice name how known old below pending e none follows =
+    let f = subst (λ (h : Reception). HasFollowed choice.form name choice.written h known old (append_known below pending)) e follows in
+    record {
+      input = f.input;
+      all = f.all;
+      text = text_of choice.written (reception_of choice) (received (reception_of choice) f.capture);
+      reported = (
+        map Reading (readings_at choice.margin (without_short choice.glitch (turned_by choice.inverted f.capture))),
+        (f.capture, f.read, (refl, λ strict. absurd (never strict))),
+        ap (listed_text choice.written) (read_so choice f.capture),
+      );
+      put = put_below old below pending (text_of choice.written (reception_of choice) (received (reception_of choice) f.capture)) none f.put;
+    }
 
 -- or why it ends before
-pub stops_so : (choice : FollowChoice) (name : List ℕ) (windows : Windows) (known old new : Option (List ℕ)) (before pending : List ℕ) (error : FollowError) (fault : MonitorFault) → windows ≡ wider (min choice.margin most_margin)
-    → fault ≡ fault_of error → Stops choice.form name choice.written windows known old new error → (before ≡ [] → IsHandedOn error pending)
+pub stops_so : (choice : FollowChoice) (name : List ℕ) (how : Reception) (known old new : Option (List ℕ)) (before pending : List ℕ) (error : FollowError) (fault : MonitorFault) → how ≡ reception_of choice
+    → fault ≡ fault_of error → Stops choice.form name choice.written how known old new error → (before ≡ [] → IsHandedOn error pending)
     → StopsSo choice name known old new before pending fault
-stops_so choice name windows known old new before pending error fault e cause stops handed = record {
+stops_so choice name how known old new before pending error fault e cause stops handed = record {
   error = error;
   cause = cause;
-  stops = subst (λ (w : Windows). Stops choice.form name choice.written w known old new error) e stops;
+  stops = subst (λ (h : Reception). Stops choice.form name choice.written h known old new error) e stops;
   handed = handed;
 }
 
@@ -94,61 +113,69 @@ stops_so choice name windows known old new before pending error fault e cause st
 abbrev view_of : FollowChoice → Bool → AuditView
 view_of choice timing = record { timing = timing; written = choice.written }
 
--- the lines of the whole, and what is put of them
-lines_are : (choice : FollowChoice) (timing : Bool) (windows : Windows) (c : Captured) → windows ≡ wider (min choice.margin most_margin) → lines_in (view_of choice timing) windows c ≡ audit_lines timing c (readings_at choice.margin c)
-lines_are choice timing windows c e = ap (audit_lines timing c) (readings_are choice.margin windows c e)
+-- a capture as it is read
+abbrev read_as : FollowChoice → Captured → Captured
+read_as choice c = without_short choice.glitch (turned_by choice.inverted c)
+
+-- the lines of the whole
+lines_are : (choice : FollowChoice) (timing : Bool) (c : Captured) → lines_in (view_of choice timing) (wider (min choice.margin most_margin)) (received (reception_of choice) c) ≡ audit_lines timing (read_as choice c) (readings_at choice.margin (read_as choice c))
+lines_are choice timing c =
+    ap (λ (d : Captured). audit_lines timing d (captured_by (wider (min choice.margin most_margin)) d)) (received_is choice c)
+    ∙ ap (audit_lines timing (read_as choice c)) (readings_are choice.margin (wider (min choice.margin most_margin)) (read_as choice c) refl)
 
 -- a strict one has no remark
-pub audits_to : (choice : FollowChoice) (timing strict remarked : Bool) (name : List ℕ) (windows : Windows) (known old below : Option (List ℕ)) (pending : List ℕ) → windows ≡ wider (min choice.margin most_margin) → pending ≡ []
-    → (strict ≡ true → remarked ≡ false) → HasAudited choice.form name windows (view_of choice timing) remarked known old (append_known below pending) → FollowsTo (record choice { report = reports.Audit timing strict }) name known old below
-audits_to choice timing strict remarked name windows known old below pending e none good f =
-    let same = lines_are choice timing windows f.capture e in
+pub audits_to : (choice : FollowChoice) (timing strict remarked : Bool) (name : List ℕ) (how : Reception) (known old below : Option (List ℕ)) (pending : List ℕ) → how ≡ reception_of choice → pending ≡ []
+    → (strict ≡ true → remarked ≡ false) → HasAudited choice.form name how (view_of choice timing) remarked known old (append_known below pending) → FollowsTo (record choice { report = reports.Audit timing strict }) name known old below
+audits_to choice timing strict remarked name how known old below pending e none good follows =
+    let f = subst (λ (h : Reception). HasAudited choice.form name h (view_of choice timing) remarked known old (append_known below pending)) e follows in
+    let same = lines_are choice timing f.capture in
     record {
       input = f.input;
       all = f.all;
-      text = audit_of (view_of choice timing) windows f.capture;
+      text = audit_of (view_of choice timing) (wider (min choice.margin most_margin)) (received (reception_of choice) f.capture);
       reported = (
-        audit_lines timing f.capture (readings_at choice.margin f.capture),
+        audit_lines timing (read_as choice f.capture) (readings_at choice.margin (read_as choice f.capture)),
         (f.capture, f.read, (refl, λ is. sym (f.noted ∙ ap has_remark same) ∙ good is)),
         ap (lines_text choice.written) same,
       );
-      put = put_below old below pending (audit_of (view_of choice timing) windows f.capture) none f.put;
+      put = put_below old below pending (audit_of (view_of choice timing) (wider (min choice.margin most_margin)) (received (reception_of choice) f.capture)) none f.put;
     }
 
 -- or it has one, and all of it was put
-pub stops_at_remark : (choice : FollowChoice) (timing strict remarked : Bool) (name : List ℕ) (windows : Windows) (known old new : Option (List ℕ)) (before pending : List ℕ) (fault : MonitorFault) → windows ≡ wider (min choice.margin most_margin) → pending ≡ []
-    → IsOfRemark strict remarked fault → HasAudited choice.form name windows (view_of choice timing) remarked known old new → StopsAudit choice timing strict name known old new before pending fault
-stops_at_remark choice timing strict remarked name windows known old new before pending fault e none why f =
-    let same = lines_are choice timing windows f.capture e in
+pub stops_at_remark : (choice : FollowChoice) (timing strict remarked : Bool) (name : List ℕ) (how : Reception) (known old new : Option (List ℕ)) (before pending : List ℕ) (fault : MonitorFault) → how ≡ reception_of choice → pending ≡ []
+    → IsOfRemark strict remarked fault → HasAudited choice.form name how (view_of choice timing) remarked known old new → StopsAudit choice timing strict name known old new before pending fault
+stops_at_remark choice timing strict remarked name how known old new before pending fault e none why follows =
+    let f = subst (λ (h : Reception). HasAudited choice.form name h (view_of choice timing) remarked known old new) e follows in
+    let same = lines_are choice timing f.capture in
     inr (record {
       input = f.input;
       all = f.all;
-      lines = audit_lines timing f.capture (readings_at choice.margin f.capture);
+      lines = audit_lines timing (read_as choice f.capture) (readings_at choice.margin (read_as choice f.capture));
       heard = (f.capture, f.read, (refl, λ is. absurd (never is)));
       put = subst (λ (ls : List AuditLine). Appends old new (lines_text choice.written ls)) same f.put;
       handed = none;
       remark = record { cause = why.cause; is_strict = why.is_strict; is_remarked = sym (f.noted ∙ ap has_remark same) ∙ why.is_remarked };
     })
 
-pub audit_ends : (choice : FollowChoice) (timing strict remarked : Bool) (name : List ℕ) (windows : Windows) (known old new : Option (List ℕ)) (before pending : List ℕ) (result : Result (Unit {0}) MonitorFault) → windows ≡ wider (min choice.margin most_margin)
-    → pending ≡ [] → IfErr result (λ fault. IsOfRemark strict remarked fault) → HasAudited choice.form name windows (view_of choice timing) remarked known old new
+pub audit_ends : (choice : FollowChoice) (timing strict remarked : Bool) (name : List ℕ) (how : Reception) (known old new : Option (List ℕ)) (before pending : List ℕ) (result : Result (Unit {0}) MonitorFault) → how ≡ reception_of choice
+    → pending ≡ [] → IfErr result (λ fault. IsOfRemark strict remarked fault) → HasAudited choice.form name how (view_of choice timing) remarked known old new
     → IfErr result (StopsAudit choice timing strict name known old new before pending)
-audit_ends choice timing strict remarked name windows known old new before pending (Ok done) e none why f = tt
-audit_ends choice timing strict remarked name windows known old new before pending (Err fault) e none why f = stops_at_remark choice timing strict remarked name windows known old new before pending fault e none why f
+audit_ends choice timing strict remarked name how known old new before pending (Ok done) e none why f = tt
+audit_ends choice timing strict remarked name how known old new before pending (Err fault) e none why f = stops_at_remark choice timing strict remarked name how known old new before pending fault e none why f
 
-pub audit_done : (choice : FollowChoice) (timing strict remarked : Bool) (name : List ℕ) (windows : Windows) (known old below : Option (List ℕ)) (pending : List ℕ) (result : Result (Unit {0}) MonitorFault) → windows ≡ wider (min choice.margin most_margin)
-    → pending ≡ [] → OnOk result (strict ≡ true → remarked ≡ false) → HasAudited choice.form name windows (view_of choice timing) remarked known old (append_known below pending)
+pub audit_done : (choice : FollowChoice) (timing strict remarked : Bool) (name : List ℕ) (how : Reception) (known old below : Option (List ℕ)) (pending : List ℕ) (result : Result (Unit {0}) MonitorFault) → how ≡ reception_of choice
+    → pending ≡ [] → OnOk result (strict ≡ true → remarked ≡ false) → HasAudited choice.form name how (view_of choice timing) remarked known old (append_known below pending)
     → OnOk result (FollowsTo (record choice { report = reports.Audit timing strict }) name known old below)
-audit_done choice timing strict remarked name windows known old below pending (Ok done) e none good f = audits_to choice timing strict remarked name windows known old below pending e none good f
-audit_done choice timing strict remarked name windows known old below pending (Err fault) e none good f = tt
+audit_done choice timing strict remarked name how known old below pending (Ok done) e none good f = audits_to choice timing strict remarked name how known old below pending e none good f
+audit_done choice timing strict remarked name how known old below pending (Err fault) e none good f = tt
 
 -- or why it ends before
-pub stops_audit : (choice : FollowChoice) (timing strict : Bool) (name : List ℕ) (windows : Windows) (known old new : Option (List ℕ)) (before pending : List ℕ) (error : FollowAuditError) (fault : MonitorFault) → windows ≡ wider (min choice.margin most_margin)
-    → IsCauseOf error fault → FollowsAudit choice.form name windows (view_of choice timing) known old new (Err error) → (before ≡ [] → IsAuditHandedOn error pending) → StopsAudit choice timing strict name known old new before pending fault
-stops_audit choice timing strict name windows known old new before pending error fault e cause stops handed = inl (record {
+pub stops_audit : (choice : FollowChoice) (timing strict : Bool) (name : List ℕ) (how : Reception) (known old new : Option (List ℕ)) (before pending : List ℕ) (error : FollowAuditError) (fault : MonitorFault) → how ≡ reception_of choice
+    → IsCauseOf error fault → FollowsAudit choice.form name how (view_of choice timing) known old new (Err error) → (before ≡ [] → IsAuditHandedOn error pending) → StopsAudit choice timing strict name known old new before pending fault
+stops_audit choice timing strict name how known old new before pending error fault e cause stops handed = inl (record {
   error = error;
   cause = cause;
-  stops = subst (λ (w : Windows). FollowsAudit choice.form name w (view_of choice timing) known old new (Err error)) e stops;
+  stops = subst (λ (h : Reception). FollowsAudit choice.form name h (view_of choice timing) known old new (Err error)) e stops;
   handed = handed;
 })
 

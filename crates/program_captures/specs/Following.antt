@@ -4,6 +4,7 @@ use Rattle.std.specs.Io.KnownBytes.{Appends}
 use Rattle.line_reading.specs.Windows.{most_margin, wider}
 use Rattle.follow_core.specs.Follow.{IsHandedOn, Stops}
 use Rattle.follow_core.specs.Lines.{form_as}
+use Rattle.follow_core.specs.declared.reception.Reception.{Reception}
 use Rattle.follow_core.specs.declared.error.FollowError.{FollowError}
 use Rattle.follow_core.specs.declared.error.FollowError.TheVariants as error
 use Rattle.follow_audit.specs.Follow.{Follows as FollowsAudit}
@@ -26,9 +27,13 @@ abbrev pub report_as : FollowReport → CaptureReport
 report_as line_reports.Readings = Readings
 report_as (line_reports.Audit timing strict) = Audit timing strict
 
+-- how a capture is read
+abbrev pub reception_of : FollowChoice → Reception
+reception_of choice = record { windows = wider (min choice.margin most_margin); inverted = choice.inverted; glitch = choice.glitch }
+
 -- this text is what is reported of the capture that an input gives, as of the whole
 abbrev pub IsReported : FollowChoice → List ℕ → List ℕ → List ℕ → Type 0
-IsReported choice name input text = IsShown choice.written false (form_as choice.form) name false 0 choice.margin (report_as choice.report) input text
+IsReported choice name input text = IsShown choice.written false (form_as choice.form) name choice.inverted choice.glitch choice.margin (report_as choice.report) input text
 
 -- that of all that there was to read is written, and nothing else
 pub record FollowsTo (choice : FollowChoice) (name : List ℕ) (known old new : Option (List ℕ)) : Type 0 where
@@ -50,7 +55,7 @@ fault_of (error.Write count) = faults.Write (record { count = count })
 pub record StopsSo (choice : FollowChoice) (name : List ℕ) (known old new : Option (List ℕ)) (before pending : List ℕ) (fault : MonitorFault) : Type 0 where
   pub error : FollowError
   pub cause : fault ≡ fault_of error
-  pub stops : Stops choice.form name choice.written (wider (min choice.margin most_margin)) known old new error
+  pub stops : Stops choice.form name choice.written (reception_of choice) known old new error
   pub handed : before ≡ [] → IsHandedOn error pending
 
 -- no memory is left
@@ -76,7 +81,7 @@ IsCauseOf audit_error.Memory fault = IsOfMemory fault
 pub record StopsBefore (choice : FollowChoice) (timing : Bool) (name : List ℕ) (known old new : Option (List ℕ)) (before pending : List ℕ) (fault : MonitorFault) : Type 0 where
   pub error : FollowAuditError
   pub cause : IsCauseOf error fault
-  pub stops : FollowsAudit choice.form name (wider (min choice.margin most_margin)) (record { timing = timing; written = choice.written }) known old new (Err error)
+  pub stops : FollowsAudit choice.form name (reception_of choice) (record { timing = timing; written = choice.written }) known old new (Err error)
   pub handed : before ≡ [] → IsAuditHandedOn error pending
 
 -- a strict audit has a remark
@@ -90,7 +95,7 @@ pub record StopsAtRemark (choice : FollowChoice) (timing strict : Bool) (name : 
   pub input : List ℕ
   pub all : IfSome known (λ text. input ≡ text)
   pub lines : List AuditLine
-  pub heard : AreHeard (form_as choice.form) name false 0 choice.margin (Audit timing false) input lines
+  pub heard : AreHeard (form_as choice.form) name choice.inverted choice.glitch choice.margin (Audit timing false) input lines
   pub put : Appends old new (lines_text choice.written lines)
   pub handed : pending ≡ []
   pub remark : IsOfRemark strict (has_remark lines) fault

@@ -2,13 +2,14 @@
 ghost use Rattle.std.specs.Prelude.{◌≡◌, IfErr, OnOk, false, true};
 ghost use Rattle.cli_words.specs.declared.choice.FollowReport.TheVariants as reports;
 ghost use Rattle.text_core.specs.Buffered.{below, pending};
-ghost use Rattle.program_captures.specs.Following.{FollowsTo, IsCauseOf, IsOfRemark, StopsAs, StopsAudit, StopsSo, fault_of};
+ghost use Rattle.program_captures.specs.Following.{FollowsTo, IsCauseOf, IsOfRemark, StopsAs, StopsAudit, StopsSo, fault_of, reception_of};
+ghost use Rattle.line_reading.specs.Windows.{AreWindows};
 
 use crate::capture::{fails, within_most};
 use crate::fault::MonitorFault;
 use cli_words::{CaptureReport, FollowChoice, FollowReport};
 use follow_audit::{AuditView, FollowAuditError, follow_audit};
-use follow_core::{FollowError, follow};
+use follow_core::{FollowError, Reception, follow};
 use line_reading::Windows;
 use std::alloc::{AllocError, Global};
 use std::io::Read;
@@ -37,6 +38,18 @@ fn audit_fault_of(error: FollowAuditError) -> MonitorFault
     }
 }
 
+// How a capture is read.
+fn reception_of(choice: FollowChoice) -> Reception
+    ensures same { result ≡ reception_of choice }
+    ensures windows { AreWindows result.windows }
+{
+    Reception {
+        windows: Windows::wider(within_most(choice.margin)),
+        inverted: choice.inverted,
+        glitch: choice.glitch,
+    }
+}
+
 // Writes the readings. Where a line is at fault, what is over by the lines before it is written and handed on.
 fn follow_readings<R: Read, W: Sink>(
     choice: FollowChoice,
@@ -47,8 +60,14 @@ fn follow_readings<R: Read, W: Sink>(
     ensures done { OnOk result (FollowsTo (record choice { report = reports.Readings }) signal.now (R.remaining input.old) (⟦<Buffered<W> as Sink>⟧.contents out.old) (W.contents (below out.new))) }
     ensures stops { IfErr result (StopsSo choice signal.now (R.remaining input.old) (⟦<Buffered<W> as Sink>⟧.contents out.old) (⟦<Buffered<W> as Sink>⟧.contents out.new) (pending out.old) (pending out.new)) }
 {
-    let windows = Windows::wider(within_most(choice.margin));
-    match follow(choice.form, signal, choice.written, windows, input, out) {
+    match follow(
+        choice.form,
+        signal,
+        choice.written,
+        reception_of(choice),
+        input,
+        out,
+    ) {
         Ok(()) => Ok(()),
         Err(error) => Err(fault_of(error)),
     }
@@ -78,12 +97,19 @@ fn follow_remarks<R: Read, W: Sink>(
     ensures done { OnOk result (FollowsTo (record choice { report = reports.Audit timing strict }) signal.now (R.remaining input.old) (⟦<Buffered<W> as Sink>⟧.contents out.old) (W.contents (below out.new))) }
     ensures stops { IfErr result (StopsAudit choice timing strict signal.now (R.remaining input.old) (⟦<Buffered<W> as Sink>⟧.contents out.old) (⟦<Buffered<W> as Sink>⟧.contents out.new) (pending out.old) (pending out.new)) }
 {
-    let windows = Windows::wider(within_most(choice.margin));
     let view = AuditView {
         timing,
         written: choice.written,
     };
-    match follow_audit(alloc, choice.form, signal, windows, view, input, out) {
+    match follow_audit(
+        alloc,
+        choice.form,
+        signal,
+        reception_of(choice),
+        view,
+        input,
+        out,
+    ) {
         Ok(remarked) => end_audit(timing, strict, remarked),
         Err(error) => Err(audit_fault_of(error)),
     }

@@ -7,8 +7,6 @@ pub mod Turns
 pub mod RunLine
 pub mod OneRun
 pub mod HasRun
-pub mod Holdings
-pub mod HeldTrace
 pub mod Certain
 pub mod Causal
 pub mod Objects

@@ -9,13 +9,9 @@ ghost use Rattle.room_run.specs.HasRun.{RunsHaveTexts, TextsHaveObjects, TextsHa
 ghost use Rattle.room_run.specs.OneRun.{OneRun, RunsCloseSoon, TextsHaveOneRun, TracesHaveParts};
 ghost use Rattle.room_run.specs.Certain.{AllBeforeIsOne, LatePulsesDoNotPull, NoneAfterHeld, ReportedIsFront, RoundTurnsStay, RoundsStay, TurnsAreCertain, TurnsStayCertain};
 ghost use Rattle.room_run.specs.Causal.{RunsAreCausal, TracesAreCausal};
-ghost use Rattle.room_run.specs.HeldTrace.{TextsHaveOneHeldTrace};
 ghost use Rattle.room_run.specs.Turns.{EventTurns, EventsAreRefused, EventsHappen, EventsKeepComplete, EventsKeepRounds, NoneAfterStop};
 ghost use Rattle.room_run.specs.Turns.{RoundTurns, RoundTurnsBegin, RoundsAreCounted, RoundsBringOn, RoundsHappen, RunsAreTold, SameOutcomesAreOne};
 ghost use Rattle.room_run.specs.Turns.{ObjectsSay, SchedulesGoOn, TextsBeginSo, TracesSay, TurnsAreOne};
-
-use line_rounds::one_outcome;
-use room_script::one_script;
 
 /// A run has one trace, and one count of its rounds and refused events.
 pub fn one_trace()
@@ -112,15 +108,6 @@ pub fn texts_have_traces()
 pub fn traces_have_parts()
     ensures { TracesHaveParts }
 {}
-
-/// The texts of a topology and a script have one trace with who holds which logical address.
-pub fn texts_have_one_held_trace()
-    ensures { TextsHaveOneHeldTrace }
-{
-    // No effect at run time. The proof reads these laws.
-    one_outcome();
-    one_script();
-}
 
 /// Turns that are over before an instant are turns of each run that may still come, whatever comes for that instant or
 /// later.

@@ -18,4 +18,4 @@ pub use port_text::{add_new_ports, on_wire, write_ports};
 pub use room::{RoomTexts, add_event_in, add_room, room_again};
 pub use round_text::add_round;
 pub use state_text::{add_state, write_state};
-pub use trace_text::{add_end, add_event};
+pub use trace_text::{add_end, add_event, error_word};

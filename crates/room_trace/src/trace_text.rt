@@ -51,7 +51,8 @@ fn submit_word(error: SubmitError) -> &'static str
     }
 }
 
-fn error_word(error: EventError) -> &'static str
+/// The word with which an event is refused.
+pub fn error_word(error: EventError) -> &'static str
     ensures { result.now ≡ error_word error }
 {
     match error {

@@ -1,13 +1,14 @@
 use Rattle.std.proofs.Common.{map, nat_eq, arith}
 use Rattle.std.specs.HashMap.{get}
 use Rattle.text_core.specs.Lines.{lines_of}
+use Rattle.expect_judge.specs.Told.{told_as}
 use Rattle.expect_judge.specs.Judged.{finding_as}
 use Rattle.expect_judge.proofs.Judging.{one_more}
 use Rattle.expect_judge.proofs.judge.judged_by.Goals as goal
 
 pub lines-preserved : goal.lines-preserved
 lines-preserved c = record {
-  same = one_more c.args.labels.now.script.now c.args.index.now.trace.now c.in-Some.line.now (lines_of c.lines.rest.now) (lines_of c.in-Some.after.now)
+  same = one_more c.args.labels.now.script.now (told_as c.args.index.now.told) c.in-Some.line.now (lines_of c.lines.rest.now) (lines_of c.in-Some.after.now)
       (map (λ state. state.items) c.lines.left.now) (map (λ state. state.items) c.later_states-left.result.now)
       (λ number. get nat_eq c.lines.instants number) (λ number. get nat_eq c.note_instant.new.instants number) c.lines.number c.first_state-state.result.now c.line_judged-judged.result
       (map finding_as c.lines.found.items) (map finding_as c.add_finding.new.found.items) _ c.is_of_state-of_state.result

@@ -1,6 +1,6 @@
 use Rattle.std.proofs.Common.{◌≡◌, List, true, subst, sym}
 use Rattle.expect_judge.specs.Index.{are_in_order}
-use Rattle.expect_judge.specs.declared.reported.RoundLine.{RoundLine as RoundRead}
+use Rattle.expect_judge.specs.declared.lines.RoundLine.{RoundLine as RoundRead}
 use Rattle.expect_judge.proofs.Ordered.{still_in_order}
 use Rattle.expect_judge.proofs.rounds.in_span.Goals as goal
 

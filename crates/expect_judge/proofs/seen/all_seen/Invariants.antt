@@ -1,14 +1,13 @@
 use Rattle.std.proofs.Common.{◌≡◌, ◌+◌, ◌≤◌, length, map}
 use Rattle.expect_judge.specs.Told.{round_as}
-use Rattle.expect_judge.specs.Seen.{first_of, or_first}
-use Rattle.expect_judge.specs.Index.{ends_among}
+use Rattle.expect_judge.specs.Seen.{ends_seen, first_of, or_first}
 use Rattle.expect_judge.proofs.seen.all_seen.Given as goal
 
 -- those seen so far, and those that are left
 abbrev pub invariant-rounds : goal.invariant-rounds
 invariant-rounds l = record {
-  count : l.count + length (ends_among (map round_as l.rest) l.span l.pattern) ≡ length (ends_among (map round_as l.rounds) l.span l.pattern);
-  first : or_first l.first (ends_among (map round_as l.rest) l.span l.pattern) ≡ first_of (ends_among (map round_as l.rounds) l.span l.pattern);
+  count : l.count + length (ends_seen (map round_as l.rest) l.span l.pattern) ≡ length (ends_seen (map round_as l.rounds) l.span l.pattern);
+  first : or_first l.first (ends_seen (map round_as l.rest) l.span l.pattern) ≡ first_of (ends_seen (map round_as l.rounds) l.span l.pattern);
   room : l.count + length l.rest ≤ length l.rounds;
 }
 

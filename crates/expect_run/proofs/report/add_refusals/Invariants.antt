@@ -1,11 +1,11 @@
-use Rattle.std.proofs.Common.{◌≡◌, length}
-use Rattle.text_core.specs.Lines.{lines_of}
+use Rattle.std.proofs.Common.{◌≡◌, length, map}
+use Rattle.expect_judge.specs.Told.{event_as}
 use Rattle.expect_run.specs.Report.{report_as, with_refusals}
 use Rattle.expect_run.proofs.report.add_refusals.Given as goal
 
--- the tests of the lines before, and then of those that are left
-abbrev pub invariant-lines : goal.invariant-lines
-invariant-lines l = with_refusals l.expected.script.now (report_as l.draft) (lines_of l.rest) ≡ with_refusals l.expected.script.now (report_as l.fn.draft) (lines_of l.trace)
+-- the tests of those before, and then of those that are left
+abbrev pub invariant-events : goal.invariant-events
+invariant-events l = with_refusals l.expected.script.now (report_as l.draft) (map event_as l.rest) ≡ with_refusals l.expected.script.now (report_as l.fn.draft) (map event_as l.events)
 
-abbrev pub decreases-lines : goal.decreases-lines
-decreases-lines l = length l.rest
+abbrev pub decreases-events : goal.decreases-events
+decreases-events l = length l.rest

@@ -1,9 +1,18 @@
-use Rattle.std.proofs.Common.{map, sym, ◌∙◌}
+use Rattle.std.proofs.Common.{◌≡◌, map, sym, ap, ◌∙◌}
+use Rattle.expect_judge.specs.Told.{Told, event_as, kept_as, round_as}
 use Rattle.expect_run.specs.Report.{report_as}
+use Rattle.expect_run.specs.Sifted.{told_kept}
 use Rattle.expect_run.proofs.Kept.{kept_is_enough}
 use Rattle.expect_run.proofs.report.report_of_few.Goals as goal
 
 pub returns : goal.returns
-returns c = λ trace are timed.
-    kept_is_enough c.args.labels.now.script.now c.args.few.now trace (map (λ state. state.items) c.args.states.now) c.in_ok-found.found.items c.deref.result.now c.deref-2.result.now
-    (report_as c.in_ok-report_found.field-0) c.in_ok-found.ensures c.deref.ensures.value (sym c.is_any_unmet.ensures ∙ c.if-is_any_unmet.false) c.deref-2.ensures.value c.in_ok-report_found.ensures are timed
+returns c = λ told are timed.
+    let script = c.args.labels.now.script.now in
+    let lent : Told = record { rounds = map round_as c.deref-2.result.now; events = map event_as c.deref-3.result.now } in
+    let same : lent ≡ told_kept c.args.few.now = λ i. record {
+      rounds = (ap (map round_as) c.deref-2.ensures.value ∙ c.in_ok-rounds.ensures ∙ ap (map kept_as) c.deref.ensures.value) i;
+      events = (ap (map event_as) c.deref-3.ensures.value) i;
+    } in
+    kept_is_enough script lent told (map (λ state. state.items) c.args.states.now)
+    c.in_ok-found.found.items c.deref-4.result.now c.deref-5.result.now (report_as c.in_ok-draft.draft) (same ∙ are)
+    c.in_ok-found.ensures c.deref-4.ensures.value (sym c.is_any_unmet.ensures ∙ c.if-is_any_unmet.false) c.deref-5.ensures.value c.in_ok-draft.ensures timed

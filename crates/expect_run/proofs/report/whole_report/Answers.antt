@@ -1,9 +1,10 @@
 use Rattle.std.proofs.Common.{map}
+use Rattle.expect_judge.specs.Told.{told_as}
 use Rattle.expect_run.specs.Report.{report_as}
 use Rattle.expect_run.proofs.Found.{report_is}
 use Rattle.expect_run.proofs.report.whole_report.Goals as goal
 
 pub returns : goal.returns
 returns c =
-    report_is c.args.script.now c.in_ok-labels.labels.script.now c.args.trace.now (map (λ state. state.items) c.args.states.now) c.in_ok-found.found.items c.deref.result.now
+    report_is c.args.script.now c.in_ok-labels.labels.script.now (told_as c.args.told.now) (map (λ state. state.items) c.args.states.now) c.in_ok-found.found.items c.deref.result.now
     (report_as c.in_ok-draft.draft) c.in_ok-labels.ensures c.in_ok-found.ensures c.deref.ensures.value c.in_ok-draft.ensures

@@ -1,4 +1,4 @@
-use Rattle.judge_laws.proofs.Run as lemmas
+use Rattle.judge_laws.proofs.LinesTold as lemmas
 use Rattle.judge_laws.proofs.laws.lines_report_rounds.Goals as goal
 
 pub returns : goal.returns

@@ -1,3 +1,4 @@
+use Rattle.follow_core.specs.Passing.{edges_in}
 use Rattle.follow_audit.proofs.Followed.{end_heard, end_refused, ending_alone}
 use Rattle.follow_audit.proofs.follower.AuditFollower.end.Goals as goal
 
@@ -10,4 +11,4 @@ returns-in-Ok-clause-ends g c =
 
 pub returns-in-Ok-clause-alone : goal.returns-in-Ok-clause-alone
 returns-in-Ok-clause-alone g c =
-    ending_alone c.args.self c.in-Ok.last.edge c.in-Ok.last.end (g.S.Sink.contents c.args.out.now) (g.S.Sink.contents c.go_to_end.new.out) c.go_to_end.result c.args.out.now c.go_to_end.new.out c.go_to_end.ensures
+    ending_alone c.args.self (edges_in c.in-Ok.last.edges) c.in-Ok.last.end (g.S.Sink.contents c.args.out.now) (g.S.Sink.contents c.go_to_end.new.out) c.go_to_end.result c.args.out.now c.go_to_end.new.out c.go_to_end.ensures

@@ -1,11 +1,9 @@
-use Rattle.std.proofs.Common.{◌+◌, option_map, refl}
-use Rattle.line_reading.specs.Reports.{listed_as}
-use Rattle.follow_core.proofs.Followed.{goes_on, line_followed}
+use Rattle.std.proofs.Common.{◌+◌}
+use Rattle.follow_core.proofs.Followed.{line_followed}
 use Rattle.follow_core.proofs.follower.Follower.line.Goals as goal
 
 pub returns-clause-hears : goal.returns-clause-hears
-returns-clause-hears c = λ form written windows past text w.
-    line_followed form c.args.signal.now written windows past c.args.number c.args.line.now c.args.self.now (record { lines = c.take.new.self; teller = c.calm-second.new.self }) c.edge-first.new.self
-    c.in_ok-edge.edge (record { first = c.edge-first.result; second = c.calm-second.result }) (option_map listed_as c.edge-first.result) (option_map listed_as c.calm-second.result) c.from.result text w c.in_ok-edge.ensures.takes
-    (goes_on c.edge_lines_go_on.ensures c.pin_lines_go_on.ensures c.csv_lines_go_on.ensures c.args.signal.now c.take.new.self (c.args.number + 1) c.from.result c.from.ensures.from c.in_ok-edge.ensures.early)
-    c.edge-first.ensures c.calm-second.ensures refl
+returns-clause-hears c = λ form written how past text w.
+    line_followed form c.args.signal.now written how past c.args.number c.args.line.now c.args.self.now (record { lines = c.take.new.self; teller = c.calm-last.new.self }) c.pass-by_edge.new.self c.pass-by_calm.new.self
+    c.in_ok-passed.passed (record { by_edge = c.pass-by_edge.result; by_calm = c.pass-by_calm.result; last = c.calm-last.result }) c.known.result text w c.in_ok-passed.ensures.takes c.in_ok-passed.ensures.shortest
+    (c.known.ensures.known c.args.signal.now (c.args.number + 1)) c.pass-by_edge.ensures c.pass-by_calm.ensures c.calm-last.ensures

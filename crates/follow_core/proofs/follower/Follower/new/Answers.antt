@@ -4,7 +4,7 @@ use Rattle.follow_core.proofs.follower.Follower.new.Goals as goal
 
 pub returns-clause-followed : goal.returns-clause-followed
 returns-clause-followed c = λ signal written.
-    followed_first c.edge_lines_go_on.ensures c.pin_lines_go_on.ensures c.csv_lines_go_on.ensures c.args.form signal written c.args.windows _ (c.new.ensures.first signal) c.new-2.ensures.untold
+    followed_first c.edge_lines_go_on.ensures c.pin_lines_go_on.ensures c.csv_lines_go_on.ensures c.args.form signal written c.args.how _ (c.new.ensures.first signal) c.new.ensures.shortest c.new-2.ensures.untold
 
 pub returns-clause-prompt : goal.returns-clause-prompt
 returns-clause-prompt c = let from = c.new.ensures.from in omega (arith, from)

@@ -1,0 +1,7 @@
+use Rattle.std.proofs.Common.{map}
+use Rattle.expect_judge.specs.Told.{kept_as}
+use Rattle.audit_expect.specs.Heard.{none_kept}
+use Rattle.audit_expect.proofs.readings.ReadingsLineHearer.word.Goals as goal
+
+pub returns : goal.returns
+returns c = none_kept (map kept_as c.args.self.now.rounds.items) c.args.self.now.full

@@ -1,5 +1,0 @@
-use Rattle.std.proofs.Common.{length}
-use Rattle.room_run.proofs.held_line.+add_holdings.Given as goal
-
-abbrev pub decreases-add_holdings : goal.decreases-add_holdings
-decreases-add_holdings g l = length l.held.now
