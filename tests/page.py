@@ -2123,7 +2123,7 @@ def advice_is_shown(t, b):
             ("inverted.vcd", as_dump(rows, inverted=True), ["--invert"], "the line is low most of the time"),
             ("chatter.vcd", as_dump(rows, chatter=True), ["--glitch", "100"], "pulses and gaps are shorter than 100 microseconds"),
             ("other.vcd", as_dump(rows, other=True), ["--signal", "CEC"], "--signal takes one of SDA, CEC"),
-            ("slow.edges", slower(rows, 6), ["--margin", "200"], f"--margin 200 reads {frames} frames more")]:
+            ("slow.edges", slower(rows, 6), ["--margin", "70"], f"--margin 70 reads {frames} frames more")]:
         show(b, written(name, text))
         banner = b.js("document.getElementById('banner').textContent")
         t.holds(f"{name}: the banner", banner.startswith(f"Read with {' '.join(flags)}. The program says: ") and says in banner, banner)

@@ -155,8 +155,8 @@ def width_remarks(piece, grid=1):
 
 
 def untaken(piece):
-    if len(piece.slots) == 10 and piece.bits[8]: return 'poll-unanswered'
-    return 'refused' if piece.to_all else 'not-acknowledged'
+    if piece.to_all: return 'refused'
+    return 'poll-unanswered' if len(piece.slots) == 10 and piece.bits[8] else 'not-acknowledged'
 
 
 def lone(x):

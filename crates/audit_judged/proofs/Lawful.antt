@@ -1,5 +1,5 @@
 -- Widths that are in their windows have no remark.
-use Rattle.std.proofs.Common.{◌≡◌, ℕ, ◌+◌, Bool, true, false, if◌then◌else◌, List, [], ◌∷◌, Option, Some, None, refl, sym, ◌∙◌, ap, subst}
+use Rattle.std.proofs.Common.{◌≡◌, ℕ, ◌+◌, Bool, true, false, if◌then◌else◌, List, [], ◌∷◌, Option, Some, None, refl, ◌∙◌, ap}
 use Rattle.std.specs.List.{filter_map}
 use Rattle.audit_widths.specs.declared.misfit.WidthWindow.{WidthWindow}
 use Rattle.audit_pieces.specs.declared.piece.Slot.{Slot}
@@ -7,7 +7,7 @@ use Rattle.audit_pieces.specs.Pieces.{Whole}
 use Rattle.audit_judged.specs.declared.widths.Outs.{Outs}
 use Rattle.audit_judged.specs.declared.widths.WidthKind.{WidthKind}
 use Rattle.audit_judged.specs.declared.widths.WidthRemark.{WidthRemark}
-use Rattle.audit_judged.specs.Widths.{AreIn, IsIn, LawfulWidthsHaveNoRemark, SlotsAreIn, is_intruded, is_out, kinds_in_order, outs_of, remark_by, remark_for, slot_outs, slot_width, start_width, width_remarks, window_for, with_out, with_width}
+use Rattle.audit_judged.specs.Widths.{AreIn, IsIn, LawfulWidthsHaveNoRemark, SlotsAreIn, is_intruded, is_out, kinds_in_order, outs_of, remark_by, remark_for, slot_outs, slot_width, start_width, window_for, with_out, with_width}
 
 not_taken : {A : Type 0} (b : Bool) (x y : A) → b ≡ false → (if b then x else y) ≡ y
 not_taken true x y e = absurd (never e)

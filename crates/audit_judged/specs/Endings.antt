@@ -1,5 +1,5 @@
 -- What is said of how a piece ends: one remark, or one cause that the standard allows, or of a whole frame that was taken nothing.
-use Rattle.std.specs.Prelude.{◌≡◌, ℕ, ◌+◌, ◌-◌, ◌*◌, ◌/◌, ◌%◌, ◌==◌, Bool, true, false, not, nat_lt, nat_le, ◌&&◌, ◌||◌, if◌then◌else◌, List, [], ◌∷◌, length, codes, Option, Some, None}
+use Rattle.std.specs.Prelude.{◌≡◌, ℕ, ◌+◌, ◌-◌, ◌/◌, ◌%◌, ◌==◌, Bool, true, false, not, nat_lt, nat_le, ◌&&◌, ◌||◌, if◌then◌else◌, List, [], ◌∷◌, length, Option, Some, None}
 use Rattle.audit_widths.specs.Misfits.{fits, window}
 use Rattle.audit_widths.specs.Spreads.{sum_of}
 use Rattle.audit_pieces.specs.declared.piece.PieceEnding.{PieceEnding}
@@ -37,10 +37,10 @@ same_block block (Some failed) = block == failed
 abbrev pub ends_untaken : List Slot → Bool
 ends_untaken slots = nat_lt 0 (length slots) && ((length slots % 10 == 0) && same_block (length slots / 10) (failed_block slots))
 
--- A header alone that nobody acknowledges is a poll of an address that nobody has (CEC 7.3).
+-- A frame to all is refused (CEC 6.1.2). A header alone that nobody acknowledges is a poll of an address that nobody has (CEC 7.3).
 abbrev pub untaken_cause : List Slot → Cause
 untaken_cause slots =
-    if (length slots == 10) && bit_at slots 9 then causes.PollUnanswered else if is_to_all slots then causes.Refused else causes.NotAcknowledged
+    if is_to_all slots then causes.Refused else if (length slots == 10) && bit_at slots 9 then causes.PollUnanswered else causes.NotAcknowledged
 
 -- ---- each ending
 

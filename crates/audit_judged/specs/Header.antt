@@ -1,5 +1,5 @@
 -- What the slots of a piece say: initiator and destination (CEC 6.1.1), and which of its blocks were taken (CEC 6.1.2).
-use Rattle.std.specs.Prelude.{ℕ, ◌+◌, ◌-◌, ◌*◌, ◌/◌, ◌%◌, ◌==◌, Bool, true, false, not, nat_lt, nat_le, ◌&&◌, if◌then◌else◌, List, map, length, slice_index_or, Option, Some, None, option_map}
+use Rattle.std.specs.Prelude.{ℕ, ◌+◌, ◌*◌, ◌/◌, ◌==◌, Bool, not, nat_lt, nat_le, ◌&&◌, if◌then◌else◌, List, length, Option, Some, None}
 use mathlib.Core.Bool.{beq}
 use Rattle.line_frames.specs.Blocks.{bit_value}
 use Rattle.line_reading.specs.Reading.{first_in}

@@ -1,7 +1,6 @@
 -- Which widths of a piece are out of the standard's windows (CEC 5.2), each kind and each party once.
-use Rattle.std.specs.Prelude.{◌≡◌, ℕ, ◌+◌, ◌-◌, ◌%◌, ◌==◌, Bool, true, false, not, nat_lt, nat_le, ◌&&◌, ◌||◌, min, max, if◌then◌else◌, List, [], ◌∷◌, ◌++◌, Option, Some, None}
+use Rattle.std.specs.Prelude.{◌≡◌, ℕ, ◌+◌, ◌-◌, ◌%◌, ◌==◌, Bool, true, false, not, nat_lt, ◌&&◌, ◌||◌, min, max, if◌then◌else◌, List, [], ◌∷◌, Option, Some, None}
 use Rattle.std.specs.List.{filter_map}
-use Rattle.std.specs.Option.{option_to_list}
 use Rattle.audit_widths.specs.declared.misfit.WidthWindow.{WidthWindow}
 use Rattle.audit_widths.specs.Misfits.{window, window_of}
 use Rattle.audit_widths.specs.Spreads.{sum_of}
@@ -10,11 +9,11 @@ use Rattle.audit_pieces.specs.declared.piece.Slot.{Slot}
 use Rattle.audit_pieces.specs.declared.piece.PieceEnding.{PieceEnding}
 use Rattle.audit_pieces.specs.declared.piece.PieceEnding.TheVariants.{Intruder}
 use Rattle.audit_pieces.specs.declared.stretch.LowStretch.{LowStretch}
-use Rattle.audit_pieces.specs.Pieces.{Parts, Whole}
+use Rattle.audit_pieces.specs.Pieces.{Whole}
 use Rattle.audit_pieces.specs.Slots.{bit_of}
 use Rattle.audit_judged.specs.Header.{destination_of, initiator_of}
 use Rattle.audit_judged.specs.declared.widths.Party.{Party}
-use Rattle.audit_judged.specs.declared.widths.Party.TheVariants.{Initiator, Follower, Either, Unknown}
+use Rattle.audit_judged.specs.declared.widths.Party.TheVariants.{Initiator, Follower, Either}
 use Rattle.audit_judged.specs.declared.widths.WidthKind.{WidthKind}
 use Rattle.audit_judged.specs.declared.widths.WidthKind.TheVariants.{StartLow, StartTotal, ZeroLow, OneLow, AckLow, LongAck, LateAck, BitTotal}
 use Rattle.audit_judged.specs.declared.widths.Outs.{Outs}

@@ -106,10 +106,10 @@ fn ends_untaken(slots: &[Slot]) -> bool
 fn untaken_cause(slots: &[Slot]) -> Cause
     ensures { result ≡ untaken_cause slots.now }
 {
-    if slots.len() == BLOCK && bit_at(slots, HEADER_EOM) {
-        Cause::PollUnanswered
-    } else if is_to_all(slots) {
+    if is_to_all(slots) {
         Cause::Refused
+    } else if slots.len() == BLOCK && bit_at(slots, HEADER_EOM) {
+        Cause::PollUnanswered
     } else {
         Cause::NotAcknowledged
     }

@@ -1,5 +1,5 @@
 -- A frame that is nearly right is one piece.
-use Rattle.std.proofs.Common.{◌≡◌, ℕ, zero, suc, ◌+◌, ◌-◌, ◌<◌, ◌≤◌, Bool, true, false, not, nat_lt, nat_le, is_none, ◌&&◌, ◌||◌, if◌then◌else◌, List, [], ◌∷◌, ◌++◌, map, length, get_or, Option, Some, None, refl, sym, ◌∙◌, ap, subst, arith, append_assoc, append-nil}
+use Rattle.std.proofs.Common.{◌≡◌, ℕ, suc, ◌-◌, ◌<◌, ◌≤◌, Bool, true, false, not, nat_lt, nat_le, is_none, ◌&&◌, ◌||◌, if◌then◌else◌, List, [], ◌∷◌, ◌++◌, map, length, get_or, Option, None, refl, sym, ◌∙◌, ap, subst, arith, append_assoc, append-nil}
 use Rattle.std.proofs.lemmas.Bool.Decides.{nat_tests}
 use Rattle.line_reading.specs.Windows.{sample_at}
 use Rattle.audit_pieces.specs.declared.stretch.Class.{Class}
@@ -9,13 +9,13 @@ use Rattle.audit_pieces.specs.declared.piece.After.{After}
 use Rattle.audit_pieces.specs.declared.piece.PieceEnding.{PieceEnding}
 use Rattle.audit_pieces.specs.declared.piece.PieceEnding.TheVariants.{Complete, Overrun, Long as TooLong}
 use Rattle.audit_pieces.specs.declared.piece.Place.{Place}
-use Rattle.audit_pieces.specs.declared.piece.Place.TheVariants.{InSlot, Late, Breaks, Trails, Outside}
+use Rattle.audit_pieces.specs.declared.piece.Place.TheVariants.{InSlot, Late, Breaks, Outside}
 use Rattle.audit_pieces.specs.declared.piece.Slot.{Slot}
 use Rattle.audit_pieces.specs.Bounds.{apart_from, bit_period, shortest_bit}
 use Rattle.audit_pieces.specs.Slots.{ends_block, has_eom, is_late, is_whole, last_slot, no_slot, slot_of}
-use Rattle.audit_pieces.specs.Pieces.{Parts, Whole, alone, bare_ending, ended, frame_ending, frame_place, in_frame, is_apart, is_broken, is_cut, is_early, is_framed, is_late_bit, is_outside, is_over, is_overrun, place_of, placed, quiet_ending, slot_fall, trails, whole_ending, with_stretch}
-use Rattle.audit_pieces.specs.Wide.{AreOf, EndsBefore, after_of, pieces_of, pieces_on}
-use Rattle.audit_pieces.specs.Frames.{AreAsked, AreBitsAfter, FramesArePieces, IsApartFrom, frame_of, framed, last_of}
+use Rattle.audit_pieces.specs.Pieces.{Parts, Whole, alone, bare_ending, ended, frame_place, in_frame, is_apart, is_broken, is_cut, is_early, is_framed, is_late_bit, is_outside, is_over, is_overrun, place_of, placed, quiet_ending, slot_fall, trails, with_stretch}
+use Rattle.audit_pieces.specs.Wide.{AreOf, EndsBefore, after_of, pieces_of}
+use Rattle.audit_pieces.specs.Frames.{AreAsked, AreBitsAfter, FramesArePieces, IsApartFrom, framed, last_of}
 use Rattle.audit_pieces.proofs.Parted.{along, ends}
 
 -- ---- the last slot

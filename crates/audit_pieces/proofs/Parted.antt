@@ -1,14 +1,13 @@
 -- What the reader gives are the pieces, and the only ones.
 use Rattle.std.proofs.Common.{◌≡◌, ℕ, Bool, true, false, if◌then◌else◌, List, [], ◌∷◌, ◌++◌, Option, Some, None, refl, sym, ◌∙◌, ap, subst, append_assoc}
 use Rattle.std.specs.List.{flat_map}
-use Rattle.audit_widths.specs.declared.low.Low.{Low}
 use Rattle.audit_pieces.specs.declared.stretch.LowStretch.{LowStretch}
 use Rattle.audit_pieces.specs.declared.piece.Place.{Place}
 use Rattle.audit_pieces.specs.declared.piece.Place.TheVariants.{InSlot, Late, Breaks, Trails, Outside}
-use Rattle.audit_pieces.specs.declared.piece.After.TheVariants.{Fall, End}
+use Rattle.audit_pieces.specs.declared.piece.After.TheVariants.{Fall}
 use Rattle.audit_pieces.specs.Stretches.{stretches_of}
 use Rattle.audit_pieces.specs.Pieces.{Parts, Whole, alone, ended, is_outside, place_of, placed, with_stretch}
-use Rattle.audit_pieces.specs.Wide.{AreOf, EndsBefore, ArePieces, IsWide, pieces_of, pieces_on, after_of, AreOwn, AreEachOwn, ReadersGivePieces, OneWide, PiecesAreAll}
+use Rattle.audit_pieces.specs.Wide.{AreOf, EndsBefore, ArePieces, pieces_of, pieces_on, after_of, AreEachOwn, ReadersGivePieces, OneWide, PiecesAreAll}
 
 -- ---- a piece keeps what it begins with
 

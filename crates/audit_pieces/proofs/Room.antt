@@ -1,15 +1,14 @@
 -- Where a slot comes next there is room for it, and where one is acknowledged late there is one.
-use Rattle.std.proofs.Common.{◌≡◌, ℕ, ◌%◌, ◌==◌, ◌<◌, ◌≤◌, Bool, true, false, not, nat_lt, nat_le, is_none, ◌-◌, ◌&&◌, ◌||◌, if◌then◌else◌, length, List, refl, sym, subst, arith}
+use Rattle.std.proofs.Common.{◌≡◌, ℕ, ◌%◌, ◌==◌, ◌<◌, ◌≤◌, Bool, true, false, not, nat_lt, nat_le, is_none, ◌-◌, ◌&&◌, ◌||◌, if◌then◌else◌, length, refl, sym, subst, arith}
 use Rattle.std.proofs.lemmas.Bool.Decides.{nat_tests}
 use Rattle.audit_pieces.specs.declared.stretch.Class.{Class}
 use Rattle.audit_pieces.specs.declared.stretch.Class.TheVariants.{Bit, Long, Start, Cut}
 use Rattle.audit_pieces.specs.declared.stretch.LowStretch.{LowStretch}
 use Rattle.audit_pieces.specs.declared.piece.Place.{Place}
-use Rattle.audit_pieces.specs.declared.piece.Place.TheVariants.{InSlot, Late, Breaks, Trails, Outside}
-use Rattle.audit_pieces.specs.declared.piece.Slot.{Slot}
+use Rattle.audit_pieces.specs.declared.piece.Place.TheVariants.{InSlot, Late, Breaks, Outside}
 use Rattle.line_reading.specs.Windows.{sample_at}
 use Rattle.audit_pieces.specs.Bounds.{bit_period}
-use Rattle.audit_pieces.specs.Slots.{asks_last, has_eom, is_late, is_whole, last_slot}
+use Rattle.audit_pieces.specs.Slots.{asks_last, has_eom, is_whole, last_slot}
 use Rattle.audit_pieces.specs.Pieces.{Parts, in_frame, is_apart, is_early, is_late_bit, is_over, place_of, trails}
 
 never : true ≡ false → ⊥
@@ -45,19 +44,19 @@ trails_late Cut e = cc
 -- the order of the tests
 unless_whole : (apart over late whole : Bool) (behind next : Place) → (behind ≡ InSlot → ⊥)
     → (if apart then Outside else if over then behind else (if late then Late else if whole then behind else next)) ≡ InSlot → whole ≡ false
-unless_whole true over late whole behind next no e = absurd (out_slot e)
-unless_whole false true late whole behind next no e = absurd (no e)
-unless_whole false false true whole behind next no e = absurd (late_slot e)
-unless_whole false false false true behind next no e = absurd (no e)
-unless_whole false false false false behind next no e = refl
+unless_whole true over late whole behind next other e = absurd (out_slot e)
+unless_whole false true late whole behind next other e = absurd (other e)
+unless_whole false false true whole behind next other e = absurd (late_slot e)
+unless_whole false false false true behind next other e = absurd (other e)
+unless_whole false false false false behind next other e = refl
 
 as_late : (apart over late whole : Bool) (behind next : Place) → (behind ≡ Late → ⊥) → (next ≡ Late → ⊥)
     → (if apart then Outside else if over then behind else (if late then Late else if whole then behind else next)) ≡ Late → late ≡ true
-as_late true over late whole behind next no none e = absurd (out_late e)
-as_late false true late whole behind next no none e = absurd (no e)
-as_late false false true whole behind next no none e = refl
-as_late false false false true behind next no none e = absurd (no e)
-as_late false false false false behind next no none e = absurd (none e)
+as_late true over late whole behind next other neither e = absurd (out_late e)
+as_late false true late whole behind next other neither e = absurd (other e)
+as_late false false true whole behind next other neither e = refl
+as_late false false false true behind next other neither e = absurd (other e)
+as_late false false false false behind next other neither e = absurd (neither e)
 
 breaks_or_slot : (early : Bool) → (if early then Breaks else InSlot) ≡ Late → ⊥
 breaks_or_slot true e = breaks_late e

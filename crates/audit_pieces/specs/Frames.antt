@@ -1,7 +1,6 @@
 -- Frames that are nearly right: a start bit, and bits that follow one another, however long they are, as many as their blocks ask for
 -- (CEC 6.1). The wide reading has each as one piece.
-use Rattle.std.specs.Prelude.{◌≡◌, ℕ, ◌-◌, ◌<◌, ◌≤◌, Bool, true, false, List, [], ◌∷◌, ◌++◌, map, Option, Some, None}
-use Rattle.audit_pieces.specs.declared.stretch.Class.{Class}
+use Rattle.std.specs.Prelude.{◌≡◌, ℕ, ◌-◌, ◌<◌, ◌≤◌, true, false, List, [], ◌∷◌, ◌++◌, map, Option, None}
 use Rattle.audit_pieces.specs.declared.stretch.Class.TheVariants.{Bit, Start}
 use Rattle.audit_pieces.specs.declared.stretch.LowStretch.{LowStretch}
 use Rattle.audit_pieces.specs.declared.piece.PieceEnding.TheVariants.{Complete}

@@ -1,6 +1,6 @@
 -- Pieces of a captured line: what belongs together by its falls. A piece that begins with a long stretch is a frame: a start bit and
 -- the bits after it (CEC 5.2, 6.1). Each stretch has its place in the piece that it follows, or begins the next one.
-use Rattle.std.specs.Prelude.{ℕ, ◌-◌, ◌+◌, Bool, true, false, not, nat_lt, ◌&&◌, ◌||◌, if◌then◌else◌, List, [], ◌∷◌, ◌++◌, Option, Some, None}
+use Rattle.std.specs.Prelude.{ℕ, ◌-◌, Bool, true, false, not, nat_lt, ◌&&◌, ◌||◌, if◌then◌else◌, List, [], ◌∷◌, ◌++◌, Option, Some, None}
 use Rattle.audit_widths.specs.Spreads.{sum_of}
 use Rattle.audit_pieces.specs.declared.stretch.Class.{Class}
 use Rattle.audit_pieces.specs.declared.stretch.Class.TheVariants.{Bit, Long, Start, Cut}

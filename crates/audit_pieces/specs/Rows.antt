@@ -4,7 +4,7 @@ use Rattle.audit_widths.specs.declared.low.Low.{Low}
 use Rattle.audit_pieces.specs.declared.stretch.Class.{Class}
 use Rattle.audit_pieces.specs.declared.stretch.Class.TheVariants.{Bit, Long, Start, Cut}
 use Rattle.audit_pieces.specs.declared.piece.PieceEnding.{PieceEnding}
-use Rattle.audit_pieces.specs.declared.piece.PieceEnding.TheVariants.{Complete, Stops, Drive, Overrun, Intruder, Long as TooLong, Open, Stray, Mid}
+use Rattle.audit_pieces.specs.declared.piece.PieceEnding.TheVariants.{Complete, Stops, Drive, Overrun, Intruder, Open, Stray, Mid}
 use Rattle.audit_pieces.specs.Stretches.{stretches_of}
 use Rattle.audit_pieces.specs.Slots.{bit_of}
 use Rattle.audit_pieces.specs.Wide.{pieces_of}

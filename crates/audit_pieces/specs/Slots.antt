@@ -1,5 +1,5 @@
 -- The slots of a frame that is read wide: which bits they hold (CEC 5.2.2), and how many its blocks ask for (CEC 6.1).
-use Rattle.std.specs.Prelude.{ℕ, ◌-◌, ◌%◌, ◌==◌, Bool, false, nat_lt, nat_le, ◌&&◌, ◌||◌, List, [], length, slice_index_or, slice_set, Option, None, Some, is_none}
+use Rattle.std.specs.Prelude.{ℕ, ◌-◌, ◌%◌, ◌==◌, Bool, nat_lt, nat_le, ◌&&◌, ◌||◌, List, length, slice_index_or, slice_set, None, Some, is_none}
 use Rattle.line_reading.specs.Windows.{sample_at}
 use Rattle.line_frames.specs.Bits.{most_bits}
 use Rattle.audit_pieces.specs.declared.stretch.LowStretch.{LowStretch}

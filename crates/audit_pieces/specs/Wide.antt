@@ -1,13 +1,11 @@
 -- The wide reading: the pieces of a captured line. They part its low stretches, in order: each has those that stand at a place of it
 -- and ends before the first that stands outside.
-use Rattle.std.specs.Prelude.{◌≡◌, ℕ, Bool, true, false, if◌then◌else◌, List, [], ◌∷◌, ◌++◌, map, length, Option, Some, None, option_map}
-use Rattle.std.specs.Option.{option_to_list}
+use Rattle.std.specs.Prelude.{◌≡◌, ℕ, true, false, if◌then◌else◌, List, [], ◌∷◌, ◌++◌, Option, Some, None, option_map}
 use Rattle.std.specs.List.{flat_map}
 use Rattle.audit_widths.specs.declared.low.Low.{Low}
 use Rattle.audit_pieces.specs.declared.stretch.LowStretch.{LowStretch}
 use Rattle.audit_pieces.specs.declared.piece.After.{After}
 use Rattle.audit_pieces.specs.declared.piece.After.TheVariants.{Fall, End}
-use Rattle.audit_pieces.specs.declared.piece.Parts.{Parts as PartsOf}
 use Rattle.audit_pieces.specs.declared.reader.PieceReader.{PieceReader}
 use Rattle.audit_pieces.specs.Stretches.{stretches_of}
 use Rattle.audit_pieces.specs.Pieces.{Parts, Whole, alone, ended, is_outside, parts_of, place_of, with_stretch}

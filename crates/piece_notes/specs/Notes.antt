@@ -106,33 +106,45 @@ width_text form r = record_text form (codes "remark") (width_cells r)
 
 -- ---- endings
 
--- a low drive out of its window has that: ` not 3360..3840`
-abbrev pub drive_cells : ℕ → List PlainCell
-drive_cells width =
-    if fits (window 3360 3840) width then hidden (codes "least") nothing ∷ hidden (codes "most") nothing ∷ []
-    else both (codes " not ") (codes "least") (number 3360) ∷ both (codes "..") (codes "most") (number 3840) ∷ []
+-- where a low drive or a fall stands: ` after slot 13, 1500 from its fall`
+abbrev pub place_cells : List ℕ → ℕ → ℕ → List PlainCell
+place_cells lead slots gap = both lead (codes "slot") (number slots) ∷ both (codes ", ") (codes "gap") (number gap) ∷ said_so (codes " from its fall") ∷ []
+
+-- a low drive in its window, or out of it: `  low drive 3000 not 3360..3840 after slot 13, 1500 from its fall`
+abbrev pub good_drive_cells : ℕ → ℕ → ℕ → List PlainCell
+good_drive_cells slots gap width =
+    both (codes "  low drive ") (codes "width") (number width) ∷ hidden (codes "least") nothing ∷ hidden (codes "most") nothing
+    ∷ place_cells (codes " after slot ") slots gap
+
+abbrev pub bad_drive_cells : ℕ → ℕ → ℕ → List PlainCell
+bad_drive_cells slots gap width =
+    both (codes "  low drive ") (codes "width") (number width) ∷ both (codes " not ") (codes "least") (number 3360) ∷ both (codes "..") (codes "most") (number 3840)
+    ∷ place_cells (codes " after slot ") slots gap
+
+abbrev pub drive_cells : ℕ → ℕ → ℕ → List PlainCell
+drive_cells slots gap width = if fits (window 3360 3840) width then good_drive_cells slots gap width else bad_drive_cells slots gap width
 
 abbrev pub own_cells : EndingRemark → List PlainCell
 own_cells (endings.Stray bits) = both (codes "  bits without a start bit: ") (codes "count") (number bits) ∷ []
 own_cells (endings.LoneStart width) = both (codes "  low for ") (codes "width") (number width) ∷ said_so (codes " and nothing after it") ∷ []
 own_cells (endings.Stuck width) = both (codes "  low for ") (codes "width") (number width) ∷ both (codes ", at most ") (codes "most") (number 5540) ∷ []
-own_cells (endings.LowDrive slots gap width) =
-    both (codes "  low drive ") (codes "width") (number width) ∷ drive_cells width
-    ++ (both (codes " after slot ") (codes "slot") (number slots) ∷ both (codes ", ") (codes "gap") (number gap) ∷ said_so (codes " from its fall") ∷ [])
+own_cells (endings.LowDrive slots gap width) = drive_cells slots gap width
 own_cells (endings.Overrun slots) = both (codes "  another start bit after slot ") (codes "slot") (number slots) ∷ []
-own_cells (endings.Intruder slots gap) =
-    both (codes "  another fall after slot ") (codes "slot") (number slots) ∷ both (codes ", ") (codes "gap") (number gap) ∷ said_so (codes " from its fall") ∷ []
+own_cells (endings.Intruder slots gap) = place_cells (codes "  another fall after slot ") slots gap
 own_cells endings.TooLong = both (codes "  goes on after block ") (codes "block") (number 16) ∷ []
 own_cells (endings.Unfinished block) = both (codes "  ends after block ") (codes "block") (number block) ∷ said_so (codes " without EOM") ∷ []
 own_cells (endings.Stops slots) = both (codes "  stops after slot ") (codes "slot") (number slots) ∷ []
 own_cells (endings.AfterEnd bits) = both (codes "  bits after EOM: ") (codes "count") (number bits) ∷ []
 
-abbrev pub ending_cells : EndingRemark → Party → List PlainCell
-ending_cells r who = named (codes "remark") (ending_name r) ∷ in_section (ending_section r) ∷ (own_cells r ++ who_cells who)
+abbrev pub cells_with : EndingRemark → List PlainCell → Party → List PlainCell
+cells_with r own who = named (codes "remark") (ending_name r) ∷ in_section (ending_section r) ∷ (own ++ who_cells who)
+
+abbrev pub text_with : Form → EndingRemark → List PlainCell → Party → List ℕ
+text_with form r own who = record_text form (codes "remark") (cells_with r own who)
 
 -- THE text of a remark of an ending
 abbrev pub ending_text : Form → EndingRemark → Party → List ℕ
-ending_text form r who = record_text form (codes "remark") (ending_cells r who)
+ending_text form r who = text_with form r (own_cells r) who
 
 -- what goes on after a block that was not taken: `  goes on after block 2, which was not taken by initiator 4`
 abbrev pub goes_on_cells : ℕ → Party → List PlainCell

@@ -1,12 +1,11 @@
 //! Lines and objects of what is said of pieces.
-ghost use Rattle.std.specs.Prelude.{◌≡◌, ◌<◌, ◌∷◌, codes, false, map, true};
+ghost use Rattle.std.specs.Prelude.{◌≡◌, ◌<◌, ◌∷◌, codes, map};
 ghost use Rattle.text_core.specs.Adds.{Adds};
-ghost use Rattle.audit_widths.specs.Misfits.{fits, window};
 ghost use Rattle.record_core.specs.Cells.{plain_of};
 ghost use Rattle.record_core.specs.Records.{record_text};
 ghost use Rattle.audit_judged.specs.declared.endings.EndingRemark.TheVariants as endings;
 ghost use Rattle.piece_notes.specs.Kinds.{width_name, width_section};
-ghost use Rattle.piece_notes.specs.Notes.{bit_cells, cause_text, ending_text, goes_on_text, in_section, named, start_cells, who_cell, width_text};
+ghost use Rattle.piece_notes.specs.Notes.{bad_drive_cells, bit_cells, cause_text, drive_cells, ending_text, goes_on_text, good_drive_cells, in_section, named, start_cells, text_with, who_cell, width_text};
 
 use crate::cells::{
     cause_words, count_cell, follower_cell, initiator_cell, longest_cell, shortest_cell,
@@ -263,8 +262,7 @@ fn add_good_drive<S: Sink>(
     width: u64,
     who: Party,
 )
-    requires { fits (window 3360 3840) width ≡ true }
-    ensures { Adds out.old out.new (ending_text form (endings.LowDrive slots gap width) who) }
+    ensures { Adds out.old out.new (text_with form (endings.LowDrive slots gap width) (good_drive_cells slots gap width) who) }
 {
     let remark = EndingRemark::LowDrive(slots, gap, width);
     let cells = [
@@ -291,8 +289,7 @@ fn add_bad_drive<S: Sink>(
     width: u64,
     who: Party,
 )
-    requires { fits (window 3360 3840) width ≡ false }
-    ensures { Adds out.old out.new (ending_text form (endings.LowDrive slots gap width) who) }
+    ensures { Adds out.old out.new (text_with form (endings.LowDrive slots gap width) (bad_drive_cells slots gap width) who) }
 {
     let remark = EndingRemark::LowDrive(slots, gap, width);
     let cells = [
@@ -320,7 +317,7 @@ fn add_drive<S: Sink>(
     width: u64,
     who: Party,
 )
-    ensures { Adds out.old out.new (ending_text form (endings.LowDrive slots gap width) who) }
+    ensures { Adds out.old out.new (text_with form (endings.LowDrive slots gap width) (drive_cells slots gap width) who) }
 {
     if DRIVE.fits(width) {
         add_good_drive(out, form, slots, gap, width, who);

@@ -1,15 +1,10 @@
 //! What a capture looks like where it may have to be read otherwise, and what is said of it then.
-ghost use Rattle.std.specs.Prelude.{◌≤◌};
-ghost use Rattle.line_reading.specs.Windows.{most_margin};
 
 use arrayvec::ArrayString;
-use audit_core::hear_readings;
-use audit_notes::{AuditNote, LineHearer, ReadingGroup};
+use capture_advice::{Widening, complete_by, widening_of};
 use capture_core::Capture;
 use capture_forms::CaptureForm;
 use json_trace::{after_byte, after_word, word};
-use line_frames::{Ending, Reading};
-use line_reading::{STANDARD, Windows};
 use line_wave::Edge;
 use std::alloc::{AllocError, Global};
 use std::fmt::Write;
@@ -21,15 +16,6 @@ const CHATTER: u64 = 100;
 /// The fewest pulses and gaps of chatter that are named.
 const MUCH: u64 = 8;
 
-/// The margin that is tried, in microseconds.
-const TRIED: u64 = 200;
-
-/// Of times that are out of their window by at most the margin so many are the fewest with which it is tried.
-const SEVERAL: u64 = 3;
-
-/// The least low time that is nearer to a start bit's than to a bit's, in microseconds.
-const START_LIKE: u64 = 2600;
-
 /// What a capture looks like.
 #[derive(Clone, Copy, Debug)]
 pub struct Signs {
@@ -39,120 +25,40 @@ pub struct Signs {
     is_low: bool,
     /// How many pulses and gaps are chatter.
     chatter: u64,
-    /// How many complete readings a margin adds.
-    more: u64,
+    /// The least margin that adds most complete readings.
+    widening: Widening,
     /// Whether the wire is the first of several, and nothing complete was read on it.
     is_other: bool,
-}
-
-/// What hears readings and counts the complete ones.
-#[derive(Drop)]
-struct Complete {
-    count: u64,
-}
-
-impl LineHearer for Complete {
-    ghost hears = { λ old lines new. Unit {0} };
-
-    fn reading(&mut self, reading: &Reading) {
-        if matches!(reading.ending, Ending::Complete) {
-            self.count = self.count.saturating_add(1);
-        }
-    }
-
-    fn group(&mut self, _group: ReadingGroup) {}
-
-    fn word(&mut self, _word: &str) {}
-
-    fn note(&mut self, _note: AuditNote) {}
-
-    ghost nothing = { λ a. tt };
-
-    ghost then = { λ a b c xs ys first second. tt };
-}
-
-// How many readings of a capture are complete with a margin.
-fn complete_by(capture: &Capture, margin: u64) -> u64
-    requires { margin ≤ most_margin }
-{
-    let mut complete = Complete { count: 0 };
-    hear_readings(capture, Windows::wider(margin), &mut complete);
-    complete.count
-}
-
-// How many complete readings the margin that is tried adds.
-fn more_by_margin(capture: &Capture) -> u64 {
-    complete_by(capture, TRIED).saturating_sub(complete_by(capture, 0))
 }
 
 /// What was counted of a line, edge by edge.
 #[derive(Clone, Copy, Debug)]
 struct EdgeCounts {
-    // the edge before, and the fall before with how long it was low
+    // the edge before, and whether there was one
     last: u64,
-    fall: Option<u64>,
-    width: u64,
+    has_begun: bool,
     low: u64,
     chatter: u64,
-    near: u64,
-}
-
-// Whether a time is out of its window by what the margin that is tried makes good.
-fn is_near(time: u64, least: u64, most: u64) -> bool {
-    (time < least && time.saturating_add(TRIED) >= least)
-        || (time > most && time <= most.saturating_add(TRIED))
-}
-
-// The same of the time from a fall to the next, by how long the line was low.
-fn is_total_near(total: u64, width: u64) -> bool {
-    if width >= START_LIKE {
-        is_near(total, STANDARD.start_total.least, STANDARD.start_total.most)
-    } else {
-        is_near(total, STANDARD.bit_total.least, STANDARD.bit_total.most)
-    }
 }
 
 impl EdgeCounts {
     const NONE: EdgeCounts = EdgeCounts {
         last: 0,
-        fall: None,
-        width: 0,
+        has_begun: false,
         low: 0,
         chatter: 0,
-        near: 0,
     };
 
-    fn note_near(&mut self, near: bool) {
-        if near {
-            self.near = self.near.saturating_add(1);
-        }
-    }
-
-    fn fall(&mut self, at: u64) {
-        if let Some(since) = self.fall {
-            self.note_near(is_total_near(at.saturating_sub(since), self.width));
-        }
-        self.fall = Some(at);
-    }
-
-    fn rise(&mut self, at: u64) {
-        self.width = at.saturating_sub(self.last);
-        self.low = self.low.saturating_add(self.width);
-        let least = STANDARD.start_low.least;
-        let most = STANDARD.start_low.most;
-        self.note_near(is_near(self.width, least, most));
-    }
-
     fn edge(&mut self, edge: Edge) {
-        if self.fall.is_some() && edge.at.saturating_sub(self.last) < CHATTER {
+        let width = edge.at.saturating_sub(self.last);
+        if self.has_begun && width < CHATTER {
             self.chatter = self.chatter.saturating_add(1);
         }
-        if edge.low {
-            self.fall(edge.at);
-        } else {
-            self.rise(edge.at);
+        if !edge.low {
+            self.low = self.low.saturating_add(width);
         }
         self.last = edge.at;
+        self.has_begun = true;
     }
 }
 
@@ -180,11 +86,7 @@ pub fn signs_of(capture: &Capture, is_first: bool) -> Signs {
         has_edge: !edges.is_empty(),
         is_low: low_until(&counts, edges, capture.end()) > capture.end() / 2,
         chatter: counts.chatter,
-        more: if counts.near >= SEVERAL {
-            more_by_margin(capture)
-        } else {
-            0
-        },
+        widening: widening_of(capture),
         is_other: is_first && complete_by(capture, 0) == 0,
     }
 }
@@ -314,13 +216,13 @@ fn name_chatter<E: Sink>(count: u64, err: &mut E) {
     let _ = put_all(err, text.as_bytes());
 }
 
-fn name_more<E: Sink>(count: u64, err: &mut E) {
-    let margin = TRIED;
-    let frames = if count == 1 { "frame" } else { "frames" };
+fn name_more<E: Sink>(widening: Widening, err: &mut E) {
+    let Widening { margin, more } = widening;
+    let frames = if more == 1 { "frame" } else { "frames" };
     let mut text = ArrayString::<80>::new();
     let _ = writeln!(
         text,
-        "hdminet: --margin {margin} reads {count} {frames} more"
+        "hdminet: --margin {margin} reads {more} {frames} more"
     );
     let _ = put_all(err, text.as_bytes());
 }
@@ -356,7 +258,7 @@ pub fn write_hints<E: Sink>(
     if signs.chatter >= MUCH && glitch == 0 {
         name_chatter(signs.chatter, err);
     }
-    if signs.more > 0 && margin == 0 {
-        name_more(signs.more, err);
+    if signs.widening.more > 0 && margin == 0 {
+        name_more(signs.widening, err);
     }
 }

@@ -1,5 +1,5 @@
-use Rattle.audit_judged.proofs.Said as Said
+use Rattle.audit_judged.proofs.Saying as Saying
 use Rattle.audit_judged.proofs.laws.whole_frames_are_taken.Goals as goal
 
 pub returns : goal.returns
-returns c = Said.whole_frames_are_taken
+returns c = Saying.whole_frames_are_taken

@@ -1,11 +1,11 @@
 -- What is said of an ending, by cases.
-use Rattle.std.proofs.Common.{◌≡◌, ℕ, ◌+◌, ◌-◌, ◌/◌, ◌%◌, ◌==◌, Bool, true, false, nat_lt, if◌then◌else◌, List, [], ◌∷◌, length, Option, Some, None, refl, arith}
+use Rattle.std.proofs.Common.{◌≡◌, ℕ, ◌-◌, ◌/◌, ◌%◌, ◌==◌, Bool, true, false, nat_lt, if◌then◌else◌, List, [], ◌∷◌, length, Option, Some, None, refl, arith}
 use Rattle.std.proofs.lemmas.Bool.Decides.{nat_tests}
 use Rattle.audit_pieces.specs.declared.piece.PieceEnding.{PieceEnding}
 use Rattle.audit_pieces.specs.declared.piece.PieceEnding.TheVariants.{Complete, Stops, Drive, Overrun, Intruder, Long, Open, Stray, Mid}
 use Rattle.audit_pieces.specs.declared.piece.Slot.{Slot}
 use Rattle.audit_pieces.specs.declared.stretch.LowStretch.{LowStretch}
-use Rattle.audit_pieces.specs.Pieces.{Parts, Whole, slot_fall}
+use Rattle.audit_pieces.specs.Pieces.{Parts, slot_fall}
 use Rattle.audit_judged.specs.Header.{failed_block}
 use Rattle.audit_judged.specs.declared.endings.Cause.TheVariants as causes
 use Rattle.audit_judged.specs.declared.endings.EndingRemark.TheVariants as remarks

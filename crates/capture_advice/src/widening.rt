@@ -1,0 +1,61 @@
+//! The margin with which most frames of a capture are read.
+ghost use Rattle.std.specs.Prelude.{◌≡◌, ◌≤◌};
+ghost use Rattle.capture_advice.specs.Counts.{ReadsMore, capped, complete_at, most_count};
+
+use crate::complete::complete_by;
+use crate::lacks::margins_of;
+use capture_core::Capture;
+use line_reading::MOST_MARGIN;
+
+/// How many complete readings a margin adds, in microseconds.
+#[derive(Clone, Copy, Debug, PartialEq, Eq)]
+pub struct Widening {
+    pub margin: u64,
+    pub more: u64,
+}
+
+impl Widening {
+    /// None.
+    const NONE: Widening = Widening { margin: 0, more: 0 };
+
+    fn is_better(self, other: Widening) -> bool {
+        self.more > other.more || (self.more == other.more && self.margin < other.margin)
+    }
+}
+
+// A margin, or the one that was best before.
+fn better(capture: &Capture, plain: u64, margin: u64, best: Widening) -> Widening
+    requires plain { capped plain ≡ capped (complete_at 0 capture.now) }
+    requires best { ReadsMore capture.now best }
+    ensures { ReadsMore capture.now result }
+{
+    let margin = margin.min(MOST_MARGIN);
+    let count = complete_by(capture, margin);
+    let tried = Widening {
+        margin,
+        more: count.saturating_sub(plain),
+    };
+    if tried.is_better(best) { tried } else { best }
+}
+
+fn best_of(capture: &Capture, plain: u64, margins: &[u64], best: Widening) -> Widening
+    requires plain { capped plain ≡ capped (complete_at 0 capture.now) }
+    requires best { ReadsMore capture.now best }
+    ensures { ReadsMore capture.now result }
+{
+    let [margin, margins @ ..] = margins else {
+        return best;
+    };
+    let best = better(capture, plain, *margin, best);
+    best_of(capture, plain, margins, best)
+}
+
+/// The least of the margins that frames of a capture lack with which most readings are complete, and how many more these are than
+/// without. Where that is 0 no margin reads more.
+pub fn widening_of(capture: &Capture) -> Widening
+    ensures { ReadsMore capture.now result }
+{
+    let plain = complete_by(capture, 0);
+    let margins = margins_of(capture);
+    best_of(capture, plain, margins.as_slice(), Widening::NONE)
+}

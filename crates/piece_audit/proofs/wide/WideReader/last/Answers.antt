@@ -1,0 +1,16 @@
+use Rattle.std.proofs.Common.{ℕ, List, [], ◌∷◌, ◌++◌, Option, Some, None, refl, sym, ◌∙◌, ap}
+use Rattle.std.specs.Option.{option_to_list}
+use Rattle.audit_widths.specs.declared.low.Low.{Low}
+use Rattle.audit_pieces.specs.declared.stretch.LowStretch.{LowStretch}
+use Rattle.audit_pieces.specs.Stretches.{stretches_of}
+use Rattle.audit_pieces.specs.Wide.{pieces_left}
+use Rattle.piece_audit.proofs.wide.WideReader.last.Goals as goal
+
+pub returns-in-None-clause-given : goal.returns-in-None-clause-given
+returns-in-None-clause-given c = ap (λ (w : Option Low). pieces_left c.args.self.now.pieces c.args.end (stretches_of c.args.end (option_to_list w ++ []))) c.in-None.is
+
+pub returns-in-Some-clause-given : goal.returns-in-Some-clause-given
+returns-in-Some-clause-given c =
+    ap (λ (w : Option Low). pieces_left c.args.self.now.pieces c.args.end (stretches_of c.args.end (option_to_list w ++ []))) c.in-Some.is
+    ∙ ap (λ (x : LowStretch). pieces_left c.args.self.now.pieces c.args.end (x ∷ [])) (sym c.new.ensures)
+    ∙ c.take.ensures c.args.end []
