@@ -176,6 +176,39 @@ def objects_at_once():
     return right and (status, fault) == (1, 'hdminet: the audit has a remark\n') and [o['type'] for o in objects[:2]] == ['summary', 'sender'] and objects[1]['not_taken'] == 1
 
 
+def waits_for_the_shortest_pulse():
+    """With --glitch an edge waits until the line has stayed as it is for so long: a reading that ends with a rise comes with the line
+    that says so, and a pulse that is shorter is passed over."""
+    bus = Bus('edges', ('--glitch', '100'))
+    bus.send(edge_line(20000, 0) + edge_line(20300, 1))
+    right = bus.is_quiet()
+    bus.send(edge_line(20400, 0))
+    right = right and bus.line() == '20000 20300 bad-start -\n' and bus.is_quiet()
+    bus.send(edge_line(20450, 1) + edge_line(40000, 0) + edge_line(40300, 1))
+    right = right and bus.is_quiet()
+    bus.send('50000 end\n')
+    right = right and bus.line() == '40000 40300 bad-start -\n'
+    bus.mon.stdin.close()
+    bus.mon.stdin = None
+    return right and bus.ended() == (0, '', '')
+
+
+def turns_levels():
+    """With --invert a line is read the other way round, as that of a probe that turns its level."""
+    bus = Bus('pin', ('--invert',))
+    bus.send(HEAD + pin_line(0, 0))
+    right = True
+    for begin, told in ((20000, '0'), (200000, '3')):
+        for at, level in edges_of([(0x4F, 0, 1), (0x82, 0, 1), (0x10, 0, 1), (0x00, 1, 1)], begin):
+            bus.send(pin_line(at, 1 - level))
+        right = right and bus.is_quiet()
+        bus.send(pin_line(begin + 110000, 0)[:-2] + told + '\n')
+        right = right and bus.line() == '%d %d complete 4>f active-source 1.0.0.0 ok\n' % (begin, begin + 4500 + 39 * 2400 + 1050)
+    bus.mon.stdin.close()
+    bus.mon.stdin = None
+    return right and bus.ended() == (0, '', '')
+
+
 def has_fields(told, /, **fields):
     """A line is an object with these fields."""
     said = json.loads(told) if told else {}
@@ -259,7 +292,7 @@ def fails_to_write():
 
 def takes_no_memory():
     """An hour of a busy bus leaves the program as small as it was, with an audit too."""
-    return is_small(()) and is_small(('--audit',)) and is_small(('--audit', '--json', '--strict'))
+    return is_small(()) and is_small(('--audit',)) and is_small(('--audit', '--json', '--strict', '--glitch', '50'))
 
 
 def is_small(flags):
@@ -279,7 +312,7 @@ def is_small(flags):
 
 def main():
     failed = 0
-    tests = [reads_edges_at_once, reads_pins_at_once, reads_rows_at_once, remarks_at_once, objects_at_once, is_text_of_the_whole, has_faults, fails_to_write, takes_no_memory]
+    tests = [reads_edges_at_once, reads_pins_at_once, reads_rows_at_once, remarks_at_once, objects_at_once, waits_for_the_shortest_pulse, turns_levels, is_text_of_the_whole, has_faults, fails_to_write, takes_no_memory]
     for test in tests:
         right = test()
         failed += not right

@@ -37,7 +37,7 @@ SETS = {
     'run': [['--edges', '--as', 'vcd', '--drives'], ['--edges', '--as', 'vcd', '--drives', '--named'], ['--json', '--room', '--strict', '--explain']],
     'mon': [['--audit', '--json', '--strict'], ['--timing', '--json', '--fold'],
             ['--timing', '--margin', '20', '--glitch', '50', '--from-start', '--strict', '--json']]
-    + [['--from', form, '--follow', flag] for form in FORMS for flag in ('--audit', '--timing', '--from-start', '--json')]
+    + [['--from', form, '--follow', flag] for form in FORMS for flag in ('--audit', '--timing', '--from-start', '--json', '--invert')]
     + [['--from', form, '--follow', '--audit', '--json', '--strict'] for form in FORMS],
     'check': [['--capture', '--from', 'edges', '--json'], ['--capture', '--glitch', '50', '--signal', 'CEC'], ['--trace', '--json', '--progress']],
     'edid': [['--port', '2', '--below', 'amp', '--raw'], ['--port', '2', '--below', 'amp', '--speakers', 'own'], ['--text', '--check', '--explain'],

@@ -1,9 +1,10 @@
 //! Captures that are followed with their audit: when each part of it is written. The rows are worked out from docs/formats.md ("Audit
 //! of a capture").
-use crate::following::{Driver, Told, form_of, spelled, with_end};
+ghost use Rattle.line_reading.specs.Windows.{AreWindows};
+
+use crate::following::{Driver, Told, form_of, reception_of, spelled, with_end};
 use follow_audit::{AuditView, FollowAuditError, follow_audit};
 use follow_core::Reception;
-use line_reading::Windows;
 use record_core::Form;
 use std::cell::RefCell;
 use std::process::Abort;
@@ -23,6 +24,9 @@ edges:0 12000 0|15700 1|NACKED|38700 1|50000 0|50300 1|60000 end => >>>>>>>>>>>>
 edges:0 12000 0|15700 1|16500 0|17100 1|17500 0|21100 1|40000 end => >>>>>12000 17500 short -|>  slot 1 block 1 bit 1 total 1000 not 2050..2750|  low drive 3600|>  all readings|  start low 3700..3700 mean 3700 of 1|  start total 4500..4500 mean 4500 of 1|  one low 600..600 mean 600 of 1|  bit total 1000..1000 mean 1000 of 1| !
 # By wider windows a start bit that is low for 3,950 is one, and is remarked.
 edges:100 12000 0|15950 1|SLOTS|38700 1|90000 0|90300 1|99000 end => >>>>>>>>>>>>>>>>>>>>>>>12000 39150 complete 0>0 nack|  start low 3950 not 3500..3900|>90000 90300 bad-start -|>  start low 300 not 3500..3900|  all readings|  from 0: 0 taken, 1 not taken, 0 broken|  start low 3950..3950 mean 3950 of 1|MEANS| !
+# Without a pulse that is too short, and of a probe that turns the level.
+edges:0~100 12000 0|12050 1|20000 0|20300 1|40000 end => >>>>>20000 20300 bad-start -|  start low 300 not 3500..3900|  all readings| !
+edges:0! 0 0|12000 1|12300 0|20000 1|20300 0|40000 end => >>>12000 12300 bad-start -|>  start low 300 not 3500..3900|>20000 20300 bad-start -|>  all readings| !
 # The widths of each reading too.
 edges+timing:0 POLL|38700 1|60000 end => >>>>>>>>>>>>>>>>>>>>>>>12000 39150 complete 0>0 nack|  start low 3700..3700 mean 3700 of 1|MEANS|  all readings|  from 0: 0 taken, 1 not taken, 0 broken|  start low 3700..3700 mean 3700 of 1|MEANS| .
 # Pin events and rows: an edge is known with the next line.
@@ -60,10 +64,12 @@ fn end_text(rt: &(impl Abort + AllocGlobal), end: &Result<bool, FollowAuditError
 fn said_of(
     rt: &(impl Abort + AllocGlobal),
     form: &str,
-    margin: u64,
+    how: Reception,
     text: &[u8],
     room: usize,
-) -> String {
+) -> String
+    requires { AreWindows how.windows }
+{
     let (form, signal) = form.split_once('-').unwrap_or((form, ""));
     let (form, view) = form.split_once('+').unwrap_or((form, ""));
     let said = RefCell::new(Vec::new(rt.alloc()));
@@ -76,11 +82,7 @@ fn said_of(
         rt.alloc(),
         form_of(form),
         signal.as_bytes(),
-        Reception {
-            windows: Windows::wider(margin.min(300)),
-            inverted: false,
-            glitch: 0,
-        },
+        how,
         AuditView {
             timing: view == "timing",
             written: if view == "json" {
@@ -121,10 +123,10 @@ fn check(rt: &(impl Abort + AllocGlobal), row: &str) {
     let row = in_full(rt, row);
     let (asked, want) = row.split_once(" => ").expect(rt, "a row");
     let (words, text) = asked.split_once(' ').unwrap_or((asked, ""));
-    let (form, margin) = words.split_once(':').expect(rt, "a form");
-    let margin = margin.parse::<u64>().expect(rt, "a margin");
+    let (form, how) = words.split_once(':').expect(rt, "a form");
     let text = spelled(rt, text);
-    let said = said_of(rt, form, margin, text.as_bytes(), usize::MAX);
+    let how = reception_of(rt, how);
+    let said = said_of(rt, form, how, text.as_bytes(), usize::MAX);
     assert!(rt; said.as_str() == want, "{row}: {said}");
 }
 
@@ -140,12 +142,13 @@ fn remarks_are_written_when_they_are_known(rt: HostRuntime) {
 #[test]
 fn a_writer_that_is_full_ends_the_audit(rt: HostRuntime) {
     let text = b"12000 0\n12300 1\n40000 0\n40300 1\n50000 end\n";
-    let said = said_of(&rt, "edges", 0, text, 10);
+    let how = reception_of(&rt, "0");
+    let said = said_of(&rt, "edges", how, text, 10);
     assert!(&rt;
         said.as_str() == ">>12000 1230 write fault after 10 bytes",
         "{said}"
     );
-    let said = said_of(&rt, "edges", 0, text, 30);
+    let said = said_of(&rt, "edges", how, text, 30);
     assert!(&rt;
         said.as_str() == ">>12000 12300 bad-start -|>  star write fault after 30 bytes",
         "{said}"

@@ -1,4 +1,6 @@
 //! Captures that are followed, over a reader that gives one line at each read and a writer that notes when it was written to.
+ghost use Rattle.line_reading.specs.Windows.{AreWindows};
+
 use follow_core::{FollowError, LineForm, Reception, follow};
 use line_reading::Windows;
 use record_core::Form;
@@ -7,7 +9,8 @@ use std::io::{self, ErrorKind, Read, Write};
 use std::process::Abort;
 use text_core::{Buffered, Writes};
 
-/// `FORM:MARGIN TEXT => SAID END`; `csv-NAME` is the form with a name of the wire. In a text `|` ends a line, and `START` is a comment that starts pin events at 100 s; `POLL` has
+/// `FORM:MARGIN TEXT => SAID END`; `csv-NAME` is the form with a name of the wire, `MARGIN~N` passes over pulses and gaps shorter than N,
+/// and `MARGIN!` reads levels the other way round. In a text `|` ends a line, and `START` is a comment that starts pin events at 100 s; `POLL` has
 /// the lines of the television's own poll from 12,000 on up to its last bit, whose fall is at 38,100, and `SLOTS` those after its
 /// start bit. `SAID` has `>` for each line
 /// that was read, and each reading where it was written, with `|` after it; `END` is `.` or the fault.
@@ -62,6 +65,25 @@ csv:0 Time [s],CEC => > .
 edges:0 12000 0|12300 1|#fault => >>12000 12300 bad-start -| read fault
 # By wider windows a start bit that is low for 3,950 is one.
 edges:100 12000 0|15950 1|16000 end => >>>12000 16000 open -| .
+# An edge waits until the line has stayed as it is for as long as the shortest pulse; what is over before that edge does not wait.
+edges:0~100 12000 0|12300 1|12399 end => >>>12000 12300 bad-start -| .
+edges:0~100 12000 0|12300 1|12398 end|# more => >>>>12000 12300 bad-start -| .
+edges:0~100 12000 0|12300 1|12400 0|12500 1|20000 end => >>>12000 12300 bad-start -|>>12400 12500 bad-start -| .
+edges:0~100 12000 0|12050 1|40000 end => >>> .
+edges:0~100 12000 0|12300 1|12350 0|12700 1|40000 end => >>>>>12000 12700 bad-start -| .
+edges:0~100 12000 0|15950 1|16000 end => >>12000 15901 bad-start -|> .
+edges:0~100 12000 0|12300 1|frob => >>> line 3: line
+pin:0~100 START|100.012000000 0|100.012300000 1|100.012399000 1|100.012400000 1 => >>>>>12000 12300 bad-start -| .
+csv:0~100 Time [s],CEC|0.0,1|0.012,0|0.0123,1|0.0124,1|0.04,1 => >>>>>12000 12300 bad-start -|> .
+# Levels the other way round: a line that is high at first is low from 0 on, where it does not fall there.
+edges:0! 0 0|12000 1|12300 0|40000 end => >>>12000 12300 bad-start -|> .
+edges:0! 12000 0|12300 1|40000 end => >0 3901 bad-start -|>>12300 16201 bad-start -| .
+edges:0! # nothing yet|40000 end => >>0 3901 bad-start -| .
+pin:0! START|100.000000000 0|100.012000000 1|100.012300000 0|100.013000000 0 => >>>>>12000 12300 bad-start -| .
+csv:0! Time [s],CEC|0.0,0|0.012,1|0.0123,0|0.013,0 => >>>>>12000 12300 bad-start -| .
+# First they are turned, and then what is too short is passed over.
+edges:0~100! 0 0|12000 1|12300 0|12340 1|12700 0|40000 end => >>>>>>12000 12700 bad-start -| .
+edges:0~100! 50 0|12000 1|12300 0|40000 end => >>>>12000 12300 bad-start -| .
 ";
 
 const START: &str = "# start_monotonic 100.000000000";
@@ -163,15 +185,34 @@ pub(crate) fn form_of(word: &str) -> LineForm {
     }
 }
 
+/// How the words after the form have a capture read: `MARGIN`, `MARGIN~GLITCH`, and `!` where its levels are turned.
+pub(crate) fn reception_of(rt: &(impl Abort + AllocGlobal), words: &str) -> Reception
+    ensures { AreWindows result.windows }
+{
+    let (words, inverted) = match words.strip_suffix("!") {
+        Some(words) => (words, true),
+        None => (words, false),
+    };
+    let (margin, glitch) = words.split_once('~').unwrap_or((words, "0"));
+    let margin = margin.parse::<u64>().expect(rt, "a margin");
+    Reception {
+        windows: Windows::wider(margin.min(300)),
+        inverted,
+        glitch: glitch.parse::<u64>().expect(rt, "a width"),
+    }
+}
+
 /// What is said where a capture is followed, over a writer with so much room.
 fn said_of(
     rt: &(impl Abort + AllocGlobal),
     form: LineForm,
     signal: &[u8],
-    margin: u64,
+    how: Reception,
     text: &[u8],
     room: usize,
-) -> String {
+) -> String
+    requires { AreWindows how.windows }
+{
     let said = RefCell::new(Vec::new(rt.alloc()));
     let mut driver = Driver {
         rest: text,
@@ -182,11 +223,7 @@ fn said_of(
         form,
         signal,
         Form::Text,
-        Reception {
-            windows: Windows::wider(margin.min(300)),
-            inverted: false,
-            glitch: 0,
-        },
+        how,
         &mut driver,
         &mut out,
     );
@@ -210,15 +247,14 @@ pub(crate) fn spelled(rt: &(impl Abort + AllocGlobal), text: &str) -> String {
 fn check(rt: &(impl Abort + AllocGlobal), row: &str) {
     let (asked, want) = row.split_once(" => ").expect(rt, "a row");
     let (words, text) = asked.split_once(' ').unwrap_or((asked, ""));
-    let (form, margin) = words.split_once(':').expect(rt, "a form");
+    let (form, how) = words.split_once(':').expect(rt, "a form");
     let (form, signal) = form.split_once('-').unwrap_or((form, ""));
-    let margin = margin.parse::<u64>().expect(rt, "a margin");
     let text = spelled(rt, text);
     let said = said_of(
         rt,
         form_of(form),
         signal.as_bytes(),
-        margin,
+        reception_of(rt, how),
         text.as_bytes(),
         usize::MAX,
     );
@@ -237,12 +273,13 @@ fn readings_are_written_when_they_are_over(rt: HostRuntime) {
 #[test]
 fn a_writer_that_is_full_ends_it(rt: HostRuntime) {
     let text = b"12000 0\n12300 1\n40000 0\n40300 1\n50000 end\n";
-    let said = said_of(&rt, LineForm::Edges, b"", 0, text, 10);
+    let how = reception_of(&rt, "0");
+    let said = said_of(&rt, LineForm::Edges, b"", how, text, 10);
     assert!(&rt;
         said.as_str() == ">>12000 1230 write fault after 10 bytes",
         "{said}"
     );
-    let said = said_of(&rt, LineForm::Edges, b"", 0, text, 30);
+    let said = said_of(&rt, LineForm::Edges, b"", how, text, 30);
     assert!(&rt;
         said.as_str() == ">>12000 12300 bad-start -|>>40000  write fault after 30 bytes",
         "{said}"

@@ -6,7 +6,7 @@ use Rattle.std.proofs.lemmas.List.Elements.{All-append, All-cons, All-nil}
 use Rattle.text_core.specs.declared.buffered.Buffered.{Buffered}
 use Rattle.text_core.specs.Lines.{lines_of}
 use Rattle.text_core.specs.declared.at.At.{At}
-use Rattle.follow_core.specs.Follow.{received, received_of}
+use Rattle.follow_core.specs.Follow.{received_of}
 use Rattle.follow_core.specs.declared.reception.Reception.{Reception}
 use Rattle.capture_core.specs.Edges.{Captured}
 use Rattle.capture_core.specs.declared.fault.Cause.{Cause}

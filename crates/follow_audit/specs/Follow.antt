@@ -2,7 +2,6 @@
 -- whatever comes later (own).
 use Rattle.std.specs.Prelude.{◌≡◌, ℕ, ◌+◌, ◌≤◌, Bool, true, false, List, [], ◌∷◌, ◌++◌, ◌||◌, length, Option, IfErr, IfSome, Result, Ok, Err}
 use Rattle.std.specs.Io.KnownBytes.{Appends}
-use Rattle.std.specs.Option.{option_to_list}
 use Rattle.text_core.specs.Lines.{lines_of}
 use Rattle.text_core.specs.declared.at.At.{At}
 use Rattle.line_wave.specs.declared.Edge.{Edge}

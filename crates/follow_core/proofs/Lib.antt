@@ -1,6 +1,6 @@
 pub mod Left
 pub mod Told
-pub mod Passing
+pub mod Onward
 pub mod Followed
 pub mod Written
 pub mod Long

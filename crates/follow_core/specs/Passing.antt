@@ -2,7 +2,6 @@
 -- that are left (own).
 use Rattle.std.specs.Prelude.{◌≡◌, ℕ, ◌+◌, ◌≤◌, Bool, List, ◌∷◌, [], ◌++◌, Result, Ok, Err}
 use Rattle.line_wave.specs.declared.Edge.{Edge}
-use Rattle.line_wave.specs.Bounds.{latest_instant}
 use Rattle.text_core.specs.declared.at.At.{At}
 use Rattle.capture_core.specs.Edges.{Captured}
 use Rattle.capture_core.specs.Reading.{with_edges}

@@ -1,5 +1,5 @@
 //! The lines of a capture, taken as they come, whose levels are turned or not, and of whose pulses and gaps none is too short.
-ghost use Rattle.std.specs.Prelude.{◌≡◌, ◌≤◌, List, IfErr, IfOk, OnOk, ℕ};
+ghost use Rattle.std.specs.Prelude.{◌≡◌, ◌+◌, ◌≤◌, List, IfErr, IfOk, OnOk, ℕ};
 ghost use Rattle.line_wave.specs.Bounds.{latest_instant};
 ghost use Rattle.follow_core.specs.Lines.{from_of};
 ghost use Rattle.follow_core.specs.Passing.{ArePassedEarly, EndsPassing, IsKnownTo, IsPassing, TakesPassing, passing_captured, passing_left};

@@ -1,9 +1,11 @@
 -- A capture by its edges and its end.
-use Rattle.std.proofs.Common.{IfErr, OnOk, Ok, Result, inl, inr, ◌≡◌, ℕ, zero, suc, ◌&&◌, Bool, true, false, map, sym, List, [], Option, Some, None, Err, min, refl, ap, subst, append-nil, ◌∙◌}
+use Rattle.std.proofs.Common.{IfErr, OnOk, Ok, Result, inl, inr, ◌≡◌, ℕ, zero, suc, ◌==◌, ◌&&◌, Bool, true, false, if◌then◌else◌, arith, map, sym, List, [], Option, Some, None, Err, min, refl, ap, subst, append-nil, ◌∙◌}
 use Rattle.line_reading.specs.Windows.{most_margin, standard, wider}
 use Rattle.line_reading.specs.declared.times.Windows.{Windows}
 use Rattle.capture_monitor.proofs.ReadBy.{standard_readings}
 use Rattle.capture_monitor.specs.Watch.{captured_by}
+use Rattle.std.proofs.lemmas.Bool.Decides.{nat_tests}
+use Rattle.capture_smooth.specs.Smooth.{smooth_edges}
 use Rattle.capture_smooth.proofs.Pairs.{smoothing}
 use Rattle.capture_through.specs.Through.{made_of}
 use Rattle.follow_core.specs.declared.reception.Reception.{Reception}
@@ -67,12 +69,15 @@ nothing_more (Some xs) = ap Some (append-nil xs)
 put_below : (old below : Option (List ℕ)) (pending text : List ℕ) → pending ≡ [] → Appends old (append_known below pending) text → Appends old below text
 put_below old below pending text none put = subst (λ (new : Option (List ℕ)). Appends old new text) (ap (append_known below) none ∙ nothing_more below) put
 
+some_kept : (n : ℕ) (edges : List Edge) → smooth_edges (suc n) edges ≡ edges_kept (suc n) edges
+some_kept n edges = let some : (suc n == 0) ≡ false = grind (arith, nat_tests) in sym (ap (λ b. if b then edges else smooth_edges (suc n) edges) some)
+
 -- what is made of a capture is its edges turned, and then without those that are too close
 made_is : (inverted : Bool) (glitch : ℕ) (edges : List Edge) → made_of inverted glitch edges ≡ edges_kept glitch (edges_turned inverted edges)
 made_is false zero edges = smoothing.none edges
 made_is true zero edges = smoothing.none (edges_turned true edges)
-made_is false (suc n) edges = refl
-made_is true (suc n) edges = refl
+made_is false (suc n) edges = some_kept n edges
+made_is true (suc n) edges = some_kept n (edges_turned true edges)
 
 received_is : (choice : FollowChoice) (c : Captured) → received (reception_of choice) c ≡ without_short choice.glitch (turned_by choice.inverted c)
 received_is choice c = ap (λ (es : List Edge). let r : Captured = record { edges = es; end = c.end } in r) (made_is choice.inverted choice.glitch c.edges)

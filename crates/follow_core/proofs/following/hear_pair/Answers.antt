@@ -1,7 +1,6 @@
-use Rattle.std.proofs.Common.{map, option_map, sym}
+use Rattle.std.proofs.Common.{option_map, sym}
 use Rattle.std.specs.Option.{option_to_list}
 use Rattle.line_reading.specs.Reports.{listed_as}
-use Rattle.audit_notes.specs.Lines.AuditLine.{Reading}
 use Rattle.follow_core.proofs.Written.{heard_as, map_more}
 use Rattle.follow_core.proofs.following.hear_pair.Goals as goal
 

@@ -1,4 +1,4 @@
-use Rattle.std.proofs.Common.{◌≡◌, ◌≤◌, ◌+◌, ◌++◌, IfSome, sym, subst}
+use Rattle.std.proofs.Common.{◌≤◌, ◌+◌, ◌++◌, IfSome, sym, subst}
 use Rattle.std.specs.Option.{option_to_list}
 use Rattle.capture_smooth.specs.Smooth.{smooth_edges}
 use Rattle.capture_through.specs.Through.{AreFrom}

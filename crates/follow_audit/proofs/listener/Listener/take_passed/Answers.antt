@@ -1,4 +1,4 @@
-use Rattle.follow_audit.proofs.Audited.{takes_both, takes_maybe}
+use Rattle.follow_audit.proofs.Audited.{takes_maybe}
 use Rattle.follow_audit.proofs.listener.Listener.take_passed.Goals as goal
 
 pub returns-in_ok : goal.returns-in_ok

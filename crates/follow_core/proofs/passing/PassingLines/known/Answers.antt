@@ -2,7 +2,7 @@ use Rattle.follow_core.specs.Lines.{lines_left}
 use Rattle.std.proofs.Common.{subst, ℕ}
 use Rattle.capture_through.specs.Through.{IsKnown}
 use Rattle.follow_core.specs.Lines.{from_of}
-use Rattle.follow_core.proofs.Passing.{from_rest, known_left}
+use Rattle.follow_core.proofs.Onward.{from_rest, known_left}
 use Rattle.follow_core.proofs.passing.PassingLines.known.Goals as goal
 
 pub returns-clause-known : goal.returns-clause-known

@@ -1,8 +1,8 @@
 use Rattle.std.proofs.Common.{◌+◌, ap, subst, ℕ, ◌∙◌}
-use Rattle.capture_through.specs.Through.{PassesCalm}
+use Rattle.capture_through.specs.Through.{IsCalm, PassesCalm}
 use Rattle.follow_core.specs.Lines.{lines_left}
 use Rattle.follow_core.specs.Passing.{through_read}
-use Rattle.follow_core.proofs.Passing.{from_rest, passing_more}
+use Rattle.follow_core.proofs.Onward.{from_rest, passing_more}
 use Rattle.follow_core.proofs.passing.PassingLines.take.Goals as goal
 
 pub returns-in-Ok-clause-takes : goal.returns-in-Ok-clause-takes
@@ -16,3 +16,10 @@ returns-in-Ok-clause-takes c = λ rest.
 
 pub returns-in-Err-clause-takes : goal.returns-in-Err-clause-takes
 returns-in-Err-clause-takes c = λ rest. ap (through_read c.args.self.now.through) (c.in-Err.ensures.takes rest)
+
+pub returns-in-Ok-clause-passing : goal.returns-in-Ok-clause-passing
+returns-in-Ok-clause-passing c = record {
+  lines = c.in-Ok.ensures.early;
+  held = c.calm-by_calm.ensures.held;
+  calm = subst (λ (n : ℕ). IsCalm n c.calm-by_calm.new.self) c.from.ensures.from c.calm-by_calm.ensures.calm;
+}

@@ -1,5 +1,3 @@
-use Rattle.std.proofs.Common.{option_map}
-use Rattle.line_reading.specs.Reports.{listed_as}
 use Rattle.follow_core.proofs.Told.{tells_passed}
 use Rattle.follow_core.proofs.teller.Teller.pass.Goals as goal
 
