@@ -1,8 +1,13 @@
 -- Two rows of a table have other words at some place, or other lengths.
 use Rattle.std.proofs.Common.{◌≡◌, true, refl}
 use Rattle.text_forms.specs.Laws.{all_apart, are_apart}
+use Rattle.room_lines.specs.Script.{script_rows}
 use Rattle.room_lines.specs.Topology.{topology_rows}
 
 pub topology_apart : all_apart topology_rows ≡ true
 unfolding all_apart are_apart
 topology_apart = refl
+
+pub script_apart : all_apart script_rows ≡ true
+unfolding all_apart are_apart
+script_apart = refl

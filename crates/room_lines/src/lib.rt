@@ -2,7 +2,9 @@
 #![tactic(auto)]
 
 mod laws;
+mod script;
 mod topology;
 
-pub use laws::topology_rows_are_apart;
+pub use laws::{script_rows_are_apart, topology_rows_are_apart};
+pub use script::{SCRIPT, ScriptVerb};
 pub use topology::{TOPOLOGY, TopologyVerb};

@@ -1,20 +1,19 @@
 -- A line of a script adds at most one event and one pulse or pull to what was said before, and a pulse where there is room; a pin
 -- that is low has room for its pull.
-use Rattle.std.proofs.Common.{◌≡◌, ℕ, ◌+◌, ◌<◌, ◌≤◌, ◌==◌, ◌&&◌, ◌||◌, Bool, true, false, cond, if◌then◌else◌, codes, List, [], ◌∷◌, ◌++◌, length, length-append, max, min, nat_lt, nat_le, Option, Some, None, is_some, Result, Ok, Err, refl, sym, ap, subst, ◌∙◌, arith, append-nil}
-use Rattle.std.specs.Str.{bytes_eq}
+use Rattle.std.proofs.Common.{◌≡◌, ℕ, ◌+◌, ◌<◌, ◌≤◌, ◌==◌, ◌&&◌, ◌||◌, Bool, true, false, cond, if◌then◌else◌, List, [], ◌∷◌, ◌++◌, length, length-append, max, min, nat_lt, nat_le, Option, Some, None, is_some, Result, Ok, Err, refl, sym, ap, subst, ◌∙◌, arith, append-nil}
 use Rattle.std.proofs.lemmas.Bool.Decides.{nat_tests}
 use Rattle.line_wave.specs.declared.Stretch.{Stretch}
 use Rattle.line_wave.specs.declared.PulsesError.{PulsesError}
 use Rattle.line_wave.specs.declared.PulsesError.TheVariants as faults
 use Rattle.line_wave.specs.Pulses.{first_of, stretch_fault}
+use Rattle.text_forms.specs.Forms.{Meaning, Said, level_at, number_at, port_at, text_at, time_at, words_at}
+use Rattle.room_lines.specs.declared.script.ScriptVerb.{ScriptVerb}
+use Rattle.room_lines.specs.declared.script.ScriptVerb.TheVariants as verbs
 use Rattle.edid_tree.specs.Node.{Node}
 use Rattle.edid_tree.specs.Tree.{device_named}
 use Rattle.device_features.specs.declared.keys.Key.{Key as KeyValue}
 use Rattle.text_core.specs.Lines.{is_skipped}
-use Rattle.text_core.specs.Words.{words_of, one_of, two_of, three_of}
-use Rattle.text_core.specs.Number.{number_of}
-use Rattle.message_text.specs.declared.assembler.AssembleError.{AssembleError}
-use Rattle.room_script.specs.Keys.{key_of}
+use Rattle.text_core.specs.Words.{words_of}
 use Rattle.room_script.specs.Header.{header_names}
 use Rattle.room_script.specs.Holding.{hold_of}
 use Rattle.device_core.specs.declared.outside.Act.{Act}
@@ -26,8 +25,10 @@ use Rattle.room_script.specs.declared.script.TimedEvent.{TimedEvent}
 use Rattle.text_core.specs.At.{at_word}
 use Rattle.text_core.specs.declared.at.AtWord.{AtWord}
 use Rattle.room_script.specs.declared.script.ScriptCause.{ScriptCause}
-use Rattle.room_script.specs.declared.script.ScriptCause.TheVariants.{Word, Width, Order, TooMany, End}
-use Rattle.room_script.specs.Script.{Notes, time_of, last_time, last_end, notes_with_event, plug_read, plug_words, unplug_read, unplug_words, key_read, key_words, act_read, hold_words, drop_words, send_read, frame_event, event_words, unless_fault, pulse_refusal, span_read, pulse_read, pulse_words, touches, notes_with_pull, pull_read, pull_words, is_before, level_of, pin_falls, pin_rises, pin_stays_high, pin_stays_low, notes_with_level, pin_read, pin_words, pulses_ended, end_read, end_words, other_words, IsHandedRead, IsSendRead, IsEventRead, IsWordsRead}
+use Rattle.room_script.specs.declared.script.ScriptCause.TheVariants.{Width, Order, TooMany, End}
+use Rattle.room_script.specs.Rows.{IsSaid, IsSaidRead, key_said, key_time, line_said, plug_checked}
+use Rattle.room_script.proofs.ByForms.{line_same}
+use Rattle.room_script.specs.Script.{Notes, time_of, last_time, last_end, notes_with_event, unplug_read, key_read, act_read, send_read, frame_event, unless_fault, pulse_refusal, notes_with_pulse, touches, notes_with_pull, is_before, pin_falls, pin_rises, pin_stays_high, pin_stays_low, notes_with_level, pulses_ended, end_read, IsHandedRead}
 use Rattle.room_script.specs.Sending.{handed_in}
 use Rattle.room_script.specs.Lines.{IsMore, LinesAdd, LinesAreOfScripts, LinesKeepFew, pulls_held}
 use Rattle.line_wave.specs.Bounds.{latest_event, most_pulses, most_pulls, widest_pull}
@@ -154,25 +155,15 @@ scheduled-adds waiting notes line time event =
     adds_if waiting notes (nat_lt time (last_time notes.events)) _ _ (adds_err waiting notes _ refl)
     (adds_if waiting notes (is_some notes.end) _ _ (adds_err waiting notes _ refl) (adds_ok waiting notes _ (with_event waiting notes (record { line = line; at = time; event = event }))))
 
-plug_read-adds : (waiting : ℕ) (notes : Notes) (line : ℕ) (time port child parent : Option ℕ) → Adds waiting notes (plug_read notes line time port child parent)
-plug_read-adds waiting notes line None port child parent = adds_err waiting notes _ refl
-plug_read-adds waiting notes line (Some time) None child parent = adds_err waiting notes _ refl
-plug_read-adds waiting notes line (Some time) (Some port) None parent = adds_err waiting notes _ refl
-plug_read-adds waiting notes line (Some time) (Some port) (Some child) None = adds_err waiting notes _ refl
-plug_read-adds waiting notes line (Some time) (Some port) (Some child) (Some parent) = scheduled-adds waiting notes line time (Plug child parent (min port 255))
-
-plug_words-adds : (waiting : ℕ) (tree : List Node) (notes : Notes) (line : ℕ) (time : List ℕ) (many : ℕ) (words : Option (List ℕ × List ℕ × List ℕ)) → Adds waiting notes (plug_words tree notes line time many words)
-plug_words-adds waiting tree notes line time many None = adds_err waiting notes _ refl
-plug_words-adds waiting tree notes line time many (Some words) = plug_read-adds waiting notes line (time_of time) (number_of words.2) (device_named tree words.0) (device_named tree words.1)
+plug-adds : (waiting : ℕ) (notes : Notes) (line time port : ℕ) (child parent : Option ℕ) → Adds waiting notes (plug_checked notes line time port child parent)
+plug-adds waiting notes line time port None parent = adds_err waiting notes _ refl
+plug-adds waiting notes line time port (Some child) None = adds_err waiting notes _ refl
+plug-adds waiting notes line time port (Some child) (Some parent) = scheduled-adds waiting notes line time (Plug child parent port)
 
 unplug_read-adds : (waiting : ℕ) (notes : Notes) (line : ℕ) (time child : Option ℕ) → Adds waiting notes (unplug_read notes line time child)
 unplug_read-adds waiting notes line None child = adds_err waiting notes _ refl
 unplug_read-adds waiting notes line (Some time) None = adds_err waiting notes _ refl
 unplug_read-adds waiting notes line (Some time) (Some child) = scheduled-adds waiting notes line time (Unplug child)
-
-unplug_words-adds : (waiting : ℕ) (tree : List Node) (notes : Notes) (line : ℕ) (time : List ℕ) (many : ℕ) (words : Option (List ℕ)) → Adds waiting notes (unplug_words tree notes line time many words)
-unplug_words-adds waiting tree notes line time many None = adds_err waiting notes _ refl
-unplug_words-adds waiting tree notes line time many (Some word) = unplug_read-adds waiting notes line (time_of time) (device_named tree word)
 
 key_read-adds : (waiting : ℕ) (notes : Notes) (line : ℕ) (press : Bool) (key : Result KeyValue (AtWord ScriptCause)) (time device : Option ℕ) → Adds waiting notes (key_read notes line press key time device)
 key_read-adds waiting notes line press (Err cause) time device = adds_err waiting notes _ refl
@@ -180,32 +171,11 @@ key_read-adds waiting notes line press (Ok key) None device = adds_err waiting n
 key_read-adds waiting notes line press (Ok key) (Some time) None = adds_err waiting notes _ refl
 key_read-adds waiting notes line press (Ok key) (Some time) (Some device) = scheduled-adds waiting notes line time (Key device key press)
 
-key_words-adds : (waiting : ℕ) (tree : List Node) (notes : Notes) (line : ℕ) (press : Bool) (time : List ℕ) (words : List (List ℕ)) → Adds waiting notes (key_words tree notes line press time words)
-key_words-adds waiting tree notes line press time [] = adds_err waiting notes _ refl
-key_words-adds waiting tree notes line press time (name ∷ words) = key_read-adds waiting notes line press (key_of words) (time_of time) (device_named tree name)
-
 act_read-adds : (waiting : ℕ) (notes : Notes) (line : ℕ) (act : Option Act) (time device : Option ℕ) → Adds waiting notes (act_read notes line act time device)
 act_read-adds waiting notes line None time device = adds_err waiting notes _ refl
 act_read-adds waiting notes line (Some act) None device = adds_err waiting notes _ refl
 act_read-adds waiting notes line (Some act) (Some time) None = adds_err waiting notes _ refl
 act_read-adds waiting notes line (Some act) (Some time) (Some device) = scheduled-adds waiting notes line time (Outside device act)
-
-hold_words-adds : (waiting : ℕ) (tree : List Node) (notes : Notes) (line : ℕ) (time : List ℕ) (many : ℕ) (words : Option (List ℕ × List ℕ)) → Adds waiting notes (hold_words tree notes line time many words)
-hold_words-adds waiting tree notes line time many None = adds_err waiting notes _ refl
-hold_words-adds waiting tree notes line time many (Some words) = act_read-adds waiting notes line (hold_of words.1) (time_of time) (device_named tree words.0)
-
-drop_words-adds : (waiting : ℕ) (tree : List Node) (notes : Notes) (line : ℕ) (time : List ℕ) (many : ℕ) (words : Option (List ℕ)) → Adds waiting notes (drop_words tree notes line time many words)
-drop_words-adds waiting tree notes line time many None = adds_err waiting notes _ refl
-drop_words-adds waiting tree notes line time many (Some word) = act_read-adds waiting notes line (Some Empty) (time_of time) (device_named tree word)
-
-event_words-adds : (waiting : ℕ) (tree : List Node) (notes : Notes) (line : ℕ) (time verb : List ℕ) (words : List (List ℕ)) → Adds waiting notes (event_words tree notes line time verb words)
-event_words-adds waiting tree notes line time verb words =
-    adds_if waiting notes (bytes_eq verb (codes "plug")) _ _ (plug_words-adds waiting tree notes line time (length words) (three_of words))
-    (adds_if waiting notes (bytes_eq verb (codes "unplug")) _ _ (unplug_words-adds waiting tree notes line time (length words) (one_of words))
-    (adds_if waiting notes (bytes_eq verb (codes "press")) _ _ (key_words-adds waiting tree notes line true time words)
-    (adds_if waiting notes (bytes_eq verb (codes "release")) _ _ (key_words-adds waiting tree notes line false time words)
-    (adds_if waiting notes (bytes_eq verb (codes "hold")) _ _ (hold_words-adds waiting tree notes line time (length words) (two_of words))
-    (adds_if waiting notes (bytes_eq verb (codes "drop")) _ _ (drop_words-adds waiting tree notes line time (length words) (one_of words)) (adds_err waiting notes _ refl))))))
 
 send_read-adds : (waiting : ℕ) (notes : Notes) (line at : ℕ) (time : Option ℕ) (attempts : Option (Option ℕ)) (device : Option ℕ) (names : Option (Option HeaderNames)) (frame : Result (List ℕ) (AtWord ScriptCause))
     → Adds waiting notes (send_read notes line at time attempts device names frame)
@@ -223,10 +193,6 @@ handed-adds waiting tree notes line time name at attempts (word ∷ words) next 
     adds_next waiting notes (send_read notes line at (time_of time) attempts (device_named tree name) (header_names tree word) h.0) next
     (send_read-adds waiting notes line at (time_of time) attempts (device_named tree name) (header_names tree word) h.0) (sym h.2)
 
-send-adds : (waiting : ℕ) (tree : List Node) (notes : Notes) (line : ℕ) (time : List ℕ) (words : List (List ℕ)) (next : Notes) → IsSendRead tree notes line time words (Ok next) → IsMore waiting notes next
-send-adds waiting tree notes line time [] next h = cc
-send-adds waiting tree notes line time (name ∷ words) next h = handed-adds waiting tree notes line time name (handed_in words).at (handed_in words).attempts (handed_in words).words next h
-
 -- none of two
 neither : (a b : Bool) → (a || b) ≡ false → a ≡ false
 neither true b h = cc
@@ -236,14 +202,6 @@ neither false b h = refl
 by_cond : (b : Bool) (P Q R : Type 0) → (P → R) → (Q → R) → cond {A = Type 0} b P Q → R
 by_cond true P Q R f g h = f h
 by_cond false P Q R f g h = g h
-
-event-adds : (waiting : ℕ) (tree : List Node) (notes : Notes) (line : ℕ) (words : List (List ℕ)) (next : Notes) → IsEventRead tree notes line words (Ok next) → IsMore waiting notes next
-event-adds waiting tree notes line [] next h = cc
-event-adds waiting tree notes line (time ∷ []) next h = cc
-event-adds waiting tree notes line (time ∷ verb ∷ words) next h =
-    by_cond (bytes_eq verb (codes "send")) (IsSendRead tree notes line time words (Ok next)) (Ok next ≡ event_words tree notes line time verb words) (IsMore waiting notes next)
-    (λ p. send-adds waiting tree notes line time words next p)
-    (λ q. adds_next waiting notes (event_words tree notes line time verb words) next (event_words-adds waiting tree notes line time verb words) (sym q)) h
 
 unless_fault-adds : (waiting : ℕ) (fault : Option PulsesError) (notes : Notes) (pulse : Stretch) → (fault ≡ None → is_some notes.pin ≡ false) → Adds waiting notes (unless_fault fault notes waiting pulse)
 unless_fault-adds waiting (Some fault) notes pulse high = adds_err waiting notes _ refl
@@ -261,16 +219,8 @@ none_while_low (Some from) before pulse h = by (stretch_fault None pulse) h
     by None k = cc
     by (Some fault) k = cc
 
-pulse_read-adds : (waiting : ℕ) (notes : Notes) (time width : Option ℕ) → Adds waiting notes (pulse_read notes waiting (span_read time width))
-pulse_read-adds waiting notes None width = adds_err waiting notes _ refl
-pulse_read-adds waiting notes (Some time) None = adds_err waiting notes _ refl
-pulse_read-adds waiting notes (Some time) (Some width) =
-    unless_fault-adds waiting (pulse_refusal notes.pin (last_end notes.pulses) (record { from = time; to = time + min width 65535 })) notes (record { from = time; to = time + min width 65535 })
-    (λ taken. none_while_low notes.pin (last_end notes.pulses) (record { from = time; to = time + min width 65535 }) taken)
-
-pulse_words-adds : (waiting : ℕ) (notes : Notes) (many : ℕ) (words : Option (List ℕ × List ℕ)) → Adds waiting notes (pulse_words notes waiting many words)
-pulse_words-adds waiting notes many None = adds_err waiting notes _ refl
-pulse_words-adds waiting notes many (Some words) = pulse_read-adds waiting notes (time_of words.0) (number_of words.1)
+pulsed-adds : (waiting : ℕ) (notes : Notes) (pulse : Stretch) → Adds waiting notes (notes_with_pulse notes waiting pulse)
+pulsed-adds waiting notes pulse = unless_fault-adds waiting (pulse_refusal notes.pin (last_end notes.pulses) pulse) notes pulse (λ taken. none_while_low notes.pin (last_end notes.pulses) pulse taken)
 
 pulled-adds : (waiting : ℕ) (notes : Notes) (time width : ℕ) → Adds waiting notes (notes_with_pull notes waiting time width)
 pulled-adds waiting notes time width =
@@ -305,24 +255,6 @@ level-adds waiting notes time None true is = high-adds waiting notes time
 level-adds waiting notes time (Some from) false is = low-adds waiting notes from time
 level-adds waiting notes time (Some from) true is = rise-adds waiting notes from time (ap pulls_held is)
 
-pin_read-adds : (waiting : ℕ) (notes : Notes) (time : Option ℕ) (level : Option Bool) → Adds waiting notes (pin_read notes waiting time level)
-pin_read-adds waiting notes None level = adds_err waiting notes _ refl
-pin_read-adds waiting notes (Some time) None = adds_err waiting notes _ refl
-pin_read-adds waiting notes (Some time) (Some level) = level-adds waiting notes time notes.pin level refl
-
-pin_words-adds : (waiting : ℕ) (notes : Notes) (many : ℕ) (words : Option (List ℕ × List ℕ)) → Adds waiting notes (pin_words notes waiting many words)
-pin_words-adds waiting notes many None = adds_err waiting notes _ refl
-pin_words-adds waiting notes many (Some words) = pin_read-adds waiting notes (time_of words.0) (level_of words.1)
-
-pull_read-adds : (waiting : ℕ) (notes : Notes) (time width : Option ℕ) → Adds waiting notes (pull_read notes waiting (span_read time width))
-pull_read-adds waiting notes None width = adds_err waiting notes _ refl
-pull_read-adds waiting notes (Some time) None = adds_err waiting notes _ refl
-pull_read-adds waiting notes (Some time) (Some width) = pulled-adds waiting notes time width
-
-pull_words-adds : (waiting : ℕ) (notes : Notes) (many : ℕ) (words : Option (List ℕ × List ℕ)) → Adds waiting notes (pull_words notes waiting many words)
-pull_words-adds waiting notes many None = adds_err waiting notes _ refl
-pull_words-adds waiting notes many (Some words) = pull_read-adds waiting notes (time_of words.0) (number_of words.1)
-
 end_read-adds : (waiting : ℕ) (notes : Notes) (time : Option ℕ) → Adds waiting notes (end_read notes time)
 end_read-adds waiting notes None = adds_err waiting notes _ refl
 end_read-adds waiting notes (Some time) =
@@ -333,30 +265,34 @@ end_read-adds waiting notes (Some time) =
     ended None is = with_end waiting notes time
     ended (Some from) is = with_rise waiting notes (record { from = from; to = max time (min from latest_event + 1) }) (Some time) (ap pulls_held is)
 
-end_words-adds : (waiting : ℕ) (notes : Notes) (many : ℕ) (words : Option (List ℕ)) → Adds waiting notes (end_words notes many words)
-end_words-adds waiting notes many None = adds_err waiting notes _ refl
-end_words-adds waiting notes many (Some word) = end_read-adds waiting notes (time_of word)
+-- the values of a form
+said-adds : (waiting : ℕ) (tree : List Node) (notes : Notes) (line : ℕ) (verb : ScriptVerb) (values : List Meaning) (next : Notes) → IsSaid tree notes waiting line verb values (Ok next) → IsMore waiting notes next
+said-adds waiting tree notes line (verbs.Press word) values next h = adds_next waiting notes (key_read notes line true (key_said word values) (key_time word values) (device_named tree (text_at values 3))) next (key_read-adds waiting notes line true (key_said word values) (key_time word values) (device_named tree (text_at values 3))) (sym h)
+said-adds waiting tree notes line (verbs.Release word) values next h = adds_next waiting notes (key_read notes line false (key_said word values) (key_time word values) (device_named tree (text_at values 3))) next (key_read-adds waiting notes line false (key_said word values) (key_time word values) (device_named tree (text_at values 3))) (sym h)
+said-adds waiting tree notes line verbs.Plug values next h = adds_next waiting notes (plug_checked notes line (time_at values 1) (port_at values 5) (device_named tree (text_at values 3)) (device_named tree (text_at values 4))) next (plug-adds waiting notes line (time_at values 1) (port_at values 5) (device_named tree (text_at values 3)) (device_named tree (text_at values 4))) (sym h)
+said-adds waiting tree notes line verbs.Unplug values next h = adds_next waiting notes (unplug_read notes line (Some (time_at values 1)) (device_named tree (text_at values 3))) next (unplug_read-adds waiting notes line (Some (time_at values 1)) (device_named tree (text_at values 3))) (sym h)
+said-adds waiting tree notes line verbs.Send values next h =
+    let handed = handed_in (words_at values 4) in
+    handed-adds waiting tree notes line (text_at values 1) (text_at values 3) handed.at handed.attempts handed.words next h
+said-adds waiting tree notes line verbs.Hold values next h = adds_next waiting notes (act_read notes line (hold_of (text_at values 4)) (time_of (text_at values 1)) (device_named tree (text_at values 3))) next (act_read-adds waiting notes line (hold_of (text_at values 4)) (time_of (text_at values 1)) (device_named tree (text_at values 3))) (sym h)
+said-adds waiting tree notes line verbs.Drop values next h = adds_next waiting notes (act_read notes line (Some Empty) (Some (time_at values 1)) (device_named tree (text_at values 3))) next (act_read-adds waiting notes line (Some Empty) (Some (time_at values 1)) (device_named tree (text_at values 3))) (sym h)
+said-adds waiting tree notes line verbs.Pulse values next h =
+    let pulse : Stretch = record { from = time_at values 1; to = time_at values 1 + min (number_at values 2) 65535 } in
+    adds_next waiting notes (notes_with_pulse notes waiting pulse) next (pulsed-adds waiting notes pulse) (sym h)
+said-adds waiting tree notes line verbs.Pull values next h = adds_next waiting notes (notes_with_pull notes waiting (time_at values 1) (number_at values 2)) next (pulled-adds waiting notes (time_at values 1) (number_at values 2)) (sym h)
+said-adds waiting tree notes line verbs.Pin values next h = adds_next waiting notes (notes_with_level notes waiting (time_at values 1) notes.pin (level_at values 2)) next (level-adds waiting notes (time_at values 1) notes.pin (level_at values 2) refl) (sym h)
+said-adds waiting tree notes line verbs.End values next h = adds_next waiting notes (end_read notes (Some (time_at values 1))) next (end_read-adds waiting notes (Some (time_at values 1))) (sym h)
 
-other_words-adds : (waiting : ℕ) (notes : Notes) (verb : List ℕ) (words : List (List ℕ)) → Adds waiting notes (other_words notes waiting verb words)
-other_words-adds waiting notes verb words =
-    adds_if waiting notes (bytes_eq verb (codes "pulse")) _ _ (pulse_words-adds waiting notes (length words) (two_of words))
-    (adds_if waiting notes (bytes_eq verb (codes "pull")) _ _ (pull_words-adds waiting notes (length words) (two_of words))
-    (adds_if waiting notes (bytes_eq verb (codes "pin")) _ _ (pin_words-adds waiting notes (length words) (two_of words))
-    (adds_if waiting notes (bytes_eq verb (codes "end")) _ _ (end_words-adds waiting notes (length words) (one_of words)) (adds_err waiting notes _ refl))))
-
-words-add : (waiting : ℕ) (tree : List Node) (notes : Notes) (line : ℕ) (words : List (List ℕ)) (next : Notes) → IsWordsRead tree notes waiting line words (Ok next) → IsMore waiting notes next
-words-add waiting tree notes line [] next h = cc
-words-add waiting tree notes line (verb ∷ words) next h =
-    by_cond (bytes_eq verb (codes "at")) (IsEventRead tree notes line words (Ok next)) (Ok next ≡ other_words notes waiting verb words) (IsMore waiting notes next)
-    (λ p. event-adds waiting tree notes line words next p)
-    (λ q. adds_next waiting notes (other_words notes waiting verb words) next (other_words-adds waiting notes verb words) (sym q)) h
+form-adds : (waiting : ℕ) (tree : List Node) (notes : Notes) (line : ℕ) (said : Said ScriptVerb) (next : Notes) → IsSaidRead tree notes waiting line said (Ok next) → IsMore waiting notes next
+form-adds waiting tree notes line (Err fault) next h = cc
+form-adds waiting tree notes line (Ok said) next h = said-adds waiting tree notes line said.0 said.1 next h
 
 -- a line that is taken
 pub line_adds : LinesAdd
 line_adds waiting tree notes line text next h =
-    by_cond (is_skipped text) (Ok next ≡ Ok notes) (IsWordsRead tree notes waiting line (words_of text) (Ok next)) (IsMore waiting notes next)
+    by_cond (is_skipped text) (Ok next ≡ Ok notes) (IsSaidRead tree notes waiting line (line_said (words_of text)) (Ok next)) (IsMore waiting notes next)
     (λ p. adds_next waiting notes (Ok notes) next (adds_ok waiting notes notes (with_none waiting notes)) (sym p))
-    (λ q. words-add waiting tree notes line (words_of text) next q) h
+    (λ q. form-adds waiting tree notes line (line_said (words_of text)) next q) ((line_same tree notes waiting line text (Ok next)).1 h)
 
 -- what a script pulls low stays few
 pub few_pulses : LinesKeepFew
@@ -387,17 +323,6 @@ unless_again None notes next waiting pulse few h = by_room (nat_le most_pulses w
         → Ok next ≡ (if nat_le most_pulses (length notes.pulses) then Err (at_word 0 TooMany) else if is_some notes.end then Err (at_word 0 End) else Ok added)
     by_room true k = cc
     by_room false k = by_end (is_some notes.end) k
-
-pulse_again : (notes next : Notes) (waiting : ℕ) (time width : Option ℕ) → length next.pulses ≤ most_pulses → Ok next ≡ pulse_read notes waiting (span_read time width) → Ok next ≡ pulse_read notes (length notes.pulses) (span_read time width)
-pulse_again notes next waiting None width few h = h
-pulse_again notes next waiting (Some time) None few h = h
-pulse_again notes next waiting (Some time) (Some width) few h =
-    unless_again (pulse_refusal notes.pin (last_end notes.pulses) (record { from = time; to = time + min width 65535 })) notes next waiting (record { from = time; to = time + min width 65535 }) few h
-
-pulse_words_again : (notes next : Notes) (waiting many : ℕ) (words : Option (List ℕ × List ℕ)) → length next.pulses ≤ most_pulses → Ok next ≡ pulse_words notes waiting many words
-    → Ok next ≡ pulse_words notes (length notes.pulses) many words
-pulse_words_again notes next waiting many None few h = h
-pulse_words_again notes next waiting many (Some words) few h = pulse_again notes next waiting (time_of words.0) (number_of words.1) few h
 
 pull_again : (notes next : Notes) (waiting time width : ℕ) → length next.pulses ≤ most_pulses → Ok next ≡ notes_with_pull notes waiting time width → Ok next ≡ notes_with_pull notes (length notes.pulses) time width
 pull_again notes next waiting time width few h = by_width (width == 0 || nat_lt widest_pull width) h
@@ -431,16 +356,6 @@ pull_again notes next waiting time width few h = by_width (width == 0 || nat_lt 
         → Ok next ≡ (if b then Err (at_word 2 Width) else if is_some notes.pin || touches (last_end notes.pulses) time then Err (at_word 1 Order) else with_room (length notes.pulses))
     by_width true k = cc
     by_width false k = by_time (is_some notes.pin || touches (last_end notes.pulses) time) k
-
-pull_read_again : (notes next : Notes) (waiting : ℕ) (time width : Option ℕ) → length next.pulses ≤ most_pulses → Ok next ≡ pull_read notes waiting (span_read time width) → Ok next ≡ pull_read notes (length notes.pulses) (span_read time width)
-pull_read_again notes next waiting None width few h = h
-pull_read_again notes next waiting (Some time) None few h = h
-pull_read_again notes next waiting (Some time) (Some width) few h = pull_again notes next waiting time width few h
-
-pull_words_again : (notes next : Notes) (waiting many : ℕ) (words : Option (List ℕ × List ℕ)) → length next.pulses ≤ most_pulses → Ok next ≡ pull_words notes waiting many words
-    → Ok next ≡ pull_words notes (length notes.pulses) many words
-pull_words_again notes next waiting many None few h = h
-pull_words_again notes next waiting many (Some words) few h = pull_read_again notes next waiting (time_of words.0) (number_of words.1) few h
 
 -- a pin that falls has room for its pull where pulses and pulls are that few
 fall_again : (notes next : Notes) (waiting time : ℕ) → length next.pulses ≤ most_pulses → Ok next ≡ pin_falls notes waiting time → Ok next ≡ pin_falls notes (length notes.pulses) time
@@ -478,56 +393,34 @@ level_again notes next waiting time None true few h = h
 level_again notes next waiting time (Some from) false few h = h
 level_again notes next waiting time (Some from) true few h = h
 
-pin_again : (notes next : Notes) (waiting : ℕ) (time : Option ℕ) (level : Option Bool) → length next.pulses ≤ most_pulses → Ok next ≡ pin_read notes waiting time level → Ok next ≡ pin_read notes (length notes.pulses) time level
-pin_again notes next waiting None level few h = h
-pin_again notes next waiting (Some time) None few h = h
-pin_again notes next waiting (Some time) (Some level) few h = level_again notes next waiting time notes.pin level few h
+-- the values of a form
+said_again : (tree : List Node) (notes next : Notes) (waiting line : ℕ) (verb : ScriptVerb) (values : List Meaning) → length next.pulses ≤ most_pulses → IsSaid tree notes waiting line verb values (Ok next)
+    → IsSaid tree notes (length notes.pulses) line verb values (Ok next)
+said_again tree notes next waiting line (verbs.Press word) values few h = h
+said_again tree notes next waiting line (verbs.Release word) values few h = h
+said_again tree notes next waiting line verbs.Plug values few h = h
+said_again tree notes next waiting line verbs.Unplug values few h = h
+said_again tree notes next waiting line verbs.Send values few h = h
+said_again tree notes next waiting line verbs.Hold values few h = h
+said_again tree notes next waiting line verbs.Drop values few h = h
+said_again tree notes next waiting line verbs.Pulse values few h =
+    let pulse : Stretch = record { from = time_at values 1; to = time_at values 1 + min (number_at values 2) 65535 } in
+    unless_again (pulse_refusal notes.pin (last_end notes.pulses) pulse) notes next waiting pulse few h
+said_again tree notes next waiting line verbs.Pull values few h = pull_again notes next waiting (time_at values 1) (number_at values 2) few h
+said_again tree notes next waiting line verbs.Pin values few h = level_again notes next waiting (time_at values 1) notes.pin (level_at values 2) few h
+said_again tree notes next waiting line verbs.End values few h = h
 
-pin_words_again : (notes next : Notes) (waiting many : ℕ) (words : Option (List ℕ × List ℕ)) → length next.pulses ≤ most_pulses → Ok next ≡ pin_words notes waiting many words
-    → Ok next ≡ pin_words notes (length notes.pulses) many words
-pin_words_again notes next waiting many None few h = h
-pin_words_again notes next waiting many (Some words) few h = pin_again notes next waiting (time_of words.0) (level_of words.1) few h
-
-other_again : (notes next : Notes) (waiting : ℕ) (verb : List ℕ) (words : List (List ℕ)) → length next.pulses ≤ most_pulses → Ok next ≡ other_words notes waiting verb words → Ok next ≡ other_words notes (length notes.pulses) verb words
-other_again notes next waiting verb words few h = by_pulse (bytes_eq verb (codes "pulse")) h
-  where
-    rest : Result Notes (AtWord ScriptCause)
-    rest = if bytes_eq verb (codes "end") then end_words notes (length words) (one_of words) else Err (at_word 0 Word)
-
-    pinned : ℕ → Bool → Result Notes (AtWord ScriptCause)
-    pinned many b = if b then pin_words notes many (length words) (two_of words) else rest
-
-    pulled : ℕ → Bool → Result Notes (AtWord ScriptCause)
-    pulled many b = if b then pull_words notes many (length words) (two_of words) else pinned many (bytes_eq verb (codes "pin"))
-
-    by_pin : (b : Bool) → Ok next ≡ pinned waiting b → Ok next ≡ pinned (length notes.pulses) b
-    by_pin true k = pin_words_again notes next waiting (length words) (two_of words) few k
-    by_pin false k = k
-
-    by_pull : (b : Bool) → Ok next ≡ pulled waiting b → Ok next ≡ pulled (length notes.pulses) b
-    by_pull true k = pull_words_again notes next waiting (length words) (two_of words) few k
-    by_pull false k = by_pin (bytes_eq verb (codes "pin")) k
-
-    by_pulse : (b : Bool) → Ok next ≡ (if b then pulse_words notes waiting (length words) (two_of words) else pulled waiting (bytes_eq verb (codes "pull")))
-        → Ok next ≡ (if b then pulse_words notes (length notes.pulses) (length words) (two_of words) else pulled (length notes.pulses) (bytes_eq verb (codes "pull")))
-    by_pulse true k = pulse_words_again notes next waiting (length words) (two_of words) few k
-    by_pulse false k = by_pull (bytes_eq verb (codes "pull")) k
-
-words_again : (tree : List Node) (notes next : Notes) (waiting line : ℕ) (words : List (List ℕ)) → length next.pulses ≤ most_pulses → IsWordsRead tree notes waiting line words (Ok next)
-    → IsWordsRead tree notes (length notes.pulses) line words (Ok next)
-words_again tree notes next waiting line [] few h = h
-words_again tree notes next waiting line (verb ∷ words) few h = by_verb (bytes_eq verb (codes "at")) h
-  where
-    by_verb : (b : Bool) → cond {A = Type 0} b (IsEventRead tree notes line words (Ok next)) (Ok next ≡ other_words notes waiting verb words)
-        → cond {A = Type 0} b (IsEventRead tree notes line words (Ok next)) (Ok next ≡ other_words notes (length notes.pulses) verb words)
-    by_verb true k = k
-    by_verb false k = other_again notes next waiting verb words few k
+form_again : (tree : List Node) (notes next : Notes) (waiting line : ℕ) (said : Said ScriptVerb) → length next.pulses ≤ most_pulses → IsSaidRead tree notes waiting line said (Ok next)
+    → IsSaidRead tree notes (length notes.pulses) line said (Ok next)
+form_again tree notes next waiting line (Err fault) few h = h
+form_again tree notes next waiting line (Ok said) few h = said_again tree notes next waiting line said.0 said.1 few h
 
 -- a line that is taken is one of a script too, where its pulses and pulls are few in all
 pub read_again : LinesAreOfScripts
-read_again tree notes next waiting line text few h = by_text (is_skipped text) h
+read_again tree notes next waiting line text few h =
+    (line_same tree notes (length notes.pulses) line text (Ok next)).0 (by_text (is_skipped text) ((line_same tree notes waiting line text (Ok next)).1 h))
   where
-    by_text : (b : Bool) → cond {A = Type 0} b (◌≡◌ {A = Result Notes (AtWord ScriptCause)} (Ok next) (Ok notes)) (IsWordsRead tree notes waiting line (words_of text) (Ok next))
-        → cond {A = Type 0} b (◌≡◌ {A = Result Notes (AtWord ScriptCause)} (Ok next) (Ok notes)) (IsWordsRead tree notes (length notes.pulses) line (words_of text) (Ok next))
+    by_text : (b : Bool) → cond {A = Type 0} b (◌≡◌ {A = Result Notes (AtWord ScriptCause)} (Ok next) (Ok notes)) (IsSaidRead tree notes waiting line (line_said (words_of text)) (Ok next))
+        → cond {A = Type 0} b (◌≡◌ {A = Result Notes (AtWord ScriptCause)} (Ok next) (Ok notes)) (IsSaidRead tree notes (length notes.pulses) line (line_said (words_of text)) (Ok next))
     by_text true k = k
-    by_text false k = words_again tree notes next waiting line (words_of text) few k
+    by_text false k = form_again tree notes next waiting line (line_said (words_of text)) few k

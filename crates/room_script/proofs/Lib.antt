@@ -4,3 +4,4 @@ pub mod Adding
 pub mod Sound
 pub mod OneReading
 pub mod KeyTexts
+pub mod ByForms

@@ -1,6 +1,9 @@
 -- A text that is read as a script is read in no other way.
 use Rattle.std.proofs.Common.{◌≡◌, ℕ, ◌+◌, Bool, true, false, cond, codes, List, [], ◌∷◌, length, Option, Some, None, Result, Ok, Err, refl, sym, ap, subst, ◌∙◌}
 use Rattle.std.specs.Str.{bytes_eq}
+use Rattle.text_forms.specs.Forms.{Meaning, Said as SaidBy, text_at, words_at}
+use Rattle.room_lines.specs.declared.script.ScriptVerb.{ScriptVerb}
+use Rattle.room_lines.specs.declared.script.ScriptVerb.TheVariants as verbs
 use Rattle.edid_tree.specs.Node.{Node}
 use Rattle.edid_tree.specs.Tree.{device_named}
 use Rattle.text_core.specs.Lines.{lines_of, is_skipped}
@@ -12,7 +15,9 @@ use Rattle.room_script.specs.Header.{header_names, digits_text}
 use Rattle.text_core.specs.declared.at.AtWord.{AtWord}
 use Rattle.room_script.specs.declared.script.ScriptCause.{ScriptCause}
 use Rattle.room_script.specs.Sending.{frame_read, handed_in, hex_read, IsFrameOf, IsFrameRead, IsTextRead}
-use Rattle.room_script.specs.Script.{Course, Notes, time_of, send_read, event_words, other_words, no_notes, IsHandedRead, IsSendRead, IsEventRead, IsWordsRead, IsLineRead, Onward, AreLinesRead, OneScript}
+use Rattle.room_script.specs.Rows.{IsSaid, IsSaidRead, line_said}
+use Rattle.room_script.proofs.ByForms.{line_same}
+use Rattle.room_script.specs.Script.{Course, Notes, time_of, send_read, no_notes, IsHandedRead, IsLineRead, Onward, AreLinesRead, OneScript}
 use Rattle.text_core.specs.declared.at.At.{At}
 
 -- a frame's text is no other's
@@ -56,30 +61,31 @@ one_handed tree notes next line time name at attempts (word ∷ words) read h g 
     let Said : Result (List ℕ) (AtWord ScriptCause) → Type 0 = λ r. IsFrameRead at (word ∷ words) r in
     g.2 ∙ one_send_read notes next line at (time_of time) attempts (device_named tree name) (header_names tree word) h.0 g.0 (λ frame e. one_said at (word ∷ words) frame g.0 (subst Said e h.1) g.1) h.2
 
-one_send : (tree : List Node) (notes next : Notes) (line : ℕ) (time : List ℕ) (words : List (List ℕ)) (read : Result Notes (AtWord ScriptCause)) → IsSendRead tree notes line time words (Ok next) → IsSendRead tree notes line time words read
-    → read ≡ Ok next
-one_send tree notes next line time [] read h g = cc
-one_send tree notes next line time (name ∷ words) read h g = one_handed tree notes next line time name (handed_in words).at (handed_in words).attempts (handed_in words).words read h g
+one_form : (tree : List Node) (notes next : Notes) (waiting line : ℕ) (verb : ScriptVerb) (values : List Meaning) (read : Result Notes (AtWord ScriptCause)) → IsSaid tree notes waiting line verb values (Ok next)
+    → IsSaid tree notes waiting line verb values read → read ≡ Ok next
+one_form tree notes next waiting line (verbs.Press word) values read h g = g ∙ sym h
+one_form tree notes next waiting line (verbs.Release word) values read h g = g ∙ sym h
+one_form tree notes next waiting line verbs.Plug values read h g = g ∙ sym h
+one_form tree notes next waiting line verbs.Unplug values read h g = g ∙ sym h
+one_form tree notes next waiting line verbs.Send values read h g =
+    let handed = handed_in (words_at values 4) in
+    one_handed tree notes next line (text_at values 1) (text_at values 3) handed.at handed.attempts handed.words read h g
+one_form tree notes next waiting line verbs.Hold values read h g = g ∙ sym h
+one_form tree notes next waiting line verbs.Drop values read h g = g ∙ sym h
+one_form tree notes next waiting line verbs.Pulse values read h g = g ∙ sym h
+one_form tree notes next waiting line verbs.Pull values read h g = g ∙ sym h
+one_form tree notes next waiting line verbs.Pin values read h g = g ∙ sym h
+one_form tree notes next waiting line verbs.End values read h g = g ∙ sym h
 
-one_event : (tree : List Node) (notes next : Notes) (line : ℕ) (words : List (List ℕ)) (read : Result Notes (AtWord ScriptCause)) → IsEventRead tree notes line words (Ok next) → IsEventRead tree notes line words read → read ≡ Ok next
-one_event tree notes next line [] read h g = cc
-one_event tree notes next line (time ∷ []) read h g = cc
-one_event tree notes next line (time ∷ verb ∷ words) read h g =
-    same_way (bytes_eq verb (codes "send")) (IsSendRead tree notes line time words (Ok next)) (Ok next ≡ event_words tree notes line time verb words)
-    (IsSendRead tree notes line time words read) (read ≡ event_words tree notes line time verb words) (read ≡ Ok next)
-    (λ p q. one_send tree notes next line time words read p q) (λ p q. q ∙ sym p) h g
-
-one_words : (tree : List Node) (notes next : Notes) (waiting line : ℕ) (words : List (List ℕ)) (read : Result Notes (AtWord ScriptCause)) → IsWordsRead tree notes waiting line words (Ok next) → IsWordsRead tree notes waiting line words read → read ≡ Ok next
-one_words tree notes next waiting line [] read h g = cc
-one_words tree notes next waiting line (verb ∷ words) read h g =
-    same_way (bytes_eq verb (codes "at")) (IsEventRead tree notes line words (Ok next)) (Ok next ≡ other_words notes waiting verb words)
-    (IsEventRead tree notes line words read) (read ≡ other_words notes waiting verb words) (read ≡ Ok next)
-    (λ p q. one_event tree notes next line words read p q) (λ p q. q ∙ sym p) h g
+one_read : (tree : List Node) (notes next : Notes) (waiting line : ℕ) (said : SaidBy ScriptVerb) (read : Result Notes (AtWord ScriptCause)) → IsSaidRead tree notes waiting line said (Ok next)
+    → IsSaidRead tree notes waiting line said read → read ≡ Ok next
+one_read tree notes next waiting line (Err fault) read h g = cc
+one_read tree notes next waiting line (Ok said) read h g = one_form tree notes next waiting line said.0 said.1 read h g
 
 one_line : (tree : List Node) (notes next : Notes) (waiting line : ℕ) (text : List ℕ) (read : Result Notes (AtWord ScriptCause)) → IsLineRead tree notes waiting line text (Ok next) → IsLineRead tree notes waiting line text read → read ≡ Ok next
 one_line tree notes next waiting line text read h g =
-    same_way (is_skipped text) (Ok next ≡ Ok notes) (IsWordsRead tree notes waiting line (words_of text) (Ok next)) (read ≡ Ok notes) (IsWordsRead tree notes waiting line (words_of text) read) (read ≡ Ok next)
-    (λ p q. q ∙ sym p) (λ p q. one_words tree notes next waiting line (words_of text) read p q) h g
+    same_way (is_skipped text) (Ok next ≡ Ok notes) (IsSaidRead tree notes waiting line (line_said (words_of text)) (Ok next)) (read ≡ Ok notes) (IsSaidRead tree notes waiting line (line_said (words_of text)) read) (read ≡ Ok next)
+    (λ p q. q ∙ sym p) (λ p q. one_read tree notes next waiting line (line_said (words_of text)) read p q) ((line_same tree notes waiting line text (Ok next)).1 h) ((line_same tree notes waiting line text read).1 g)
 
 lines_one : (tree : List Node) (texts : List (List ℕ)) (line : ℕ) (notes : Notes) (course : Course) (read : Result Course (At ScriptCause)) → AreLinesRead tree texts line notes (Ok course) → AreLinesRead tree texts line notes read
     → read ≡ Ok course

@@ -1,5 +1,5 @@
 -- How a line is read, part by part.
-use Rattle.std.proofs.Common.{◌≡◌, ℕ, ◌+◌, ◌<◌, true, false, if◌then◌else◌, List, [], ◌∷◌, ◌++◌, length, Option, Result, Ok, Err, refl, sym, ap, subst, ◌∙◌, append_assoc, arith}
+use Rattle.std.proofs.Common.{◌≡◌, ℕ, ◌<◌, true, false, if◌then◌else◌, List, [], ◌∷◌, ◌++◌, length, Option, Result, Ok, Err, refl, sym, ap, subst, ◌∙◌, append_assoc, arith}
 use Rattle.std.proofs.lemmas.List.Splits.{join_with_byte-slice_split}
 use Rattle.edid_tree.specs.Node.{Node}
 use Rattle.edid_tree.specs.Tree.{device_named}
@@ -17,8 +17,7 @@ use Rattle.room_script.specs.Lines.{LinesEnd, LinesFollow}
 use Rattle.std.specs.Option.{option_copied}
 use Rattle.room_script.specs.declared.sending.HandedIn.{HandedIn}
 use Rattle.room_script.specs.Sending.{Handed, handed_as, handed_in, IsFrameRead}
-use Rattle.room_script.specs.Script.{Notes, time_of, send_read, course_at_end, IsHandedRead, IsSendRead, AreLinesRead, GivesNotes, Gives}
-use Rattle.text_core.specs.declared.at.At.{At}
+use Rattle.room_script.specs.Script.{Notes, time_of, send_read, course_at_end, IsHandedRead, AreLinesRead, GivesNotes, Gives}
 
 pub text_of-words_of : (text : List ℕ) → text_of (words_of text) ≡ text
 text_of-words_of text = join_with_byte-slice_split 32 text
@@ -57,28 +56,30 @@ abbrev pub IsHanded : HandedIn → List (List ℕ) → Type 0
 IsHanded h rest = handed_as h ≡ handed_in rest
 
 -- a frame that is handed in after a name
-pub gives_send : (tree : List Node) (notes now : Notes) (line : ℕ) (time name : List ℕ) (rest words : List (List ℕ)) (h : HandedIn) (frame word : List ℕ) (others : List (List ℕ)) (result : Result Unit ScriptLineError)
-    (instant device : Option ℕ) (names : Option (Option HeaderNames)) (r : Result (List ℕ) (AtWord ScriptCause)) → words ≡ name ∷ rest → IsHanded h rest → words_after (option_copied h.frame) ≡ words_of frame
-    → words_of frame ≡ word ∷ others → instant ≡ time_of time → device ≡ device_named tree name → names ≡ header_names tree word → IsFrameRead h.at (words_of frame) r
-    → GivesNotes now result (send_read notes line h.at instant h.attempts device names r) → Gives now result (IsSendRead tree notes line time words)
-gives_send tree notes now line time name rest words h frame word others result instant device names r split handed whole parted same_time same_device same_names is g =
+pub gives_send : (tree : List Node) (notes now : Notes) (line : ℕ) (time name timed named : List ℕ) (rest left : List (List ℕ)) (h : HandedIn) (frame word : List ℕ) (others : List (List ℕ)) (result : Result Unit ScriptLineError)
+    (instant device : Option ℕ) (names : Option (Option HeaderNames)) (r : Result (List ℕ) (AtWord ScriptCause)) → timed ≡ time → named ≡ name → left ≡ rest → IsHanded h left → words_after (option_copied h.frame) ≡ words_of frame
+    → words_of frame ≡ word ∷ others → instant ≡ time_of timed → device ≡ device_named tree named → names ≡ header_names tree word → IsFrameRead h.at (words_of frame) r
+    → GivesNotes now result (send_read notes line h.at instant h.attempts device names r) → Gives now result (IsHandedRead tree notes line time name (handed_in rest).at (handed_in rest).attempts (handed_in rest).words)
+gives_send tree notes now line time name timed named rest left h frame word others result instant device names r at_time of_name are handed_left whole parted same_time same_device same_names is g =
+    let handed = subst (IsHanded h) are handed_left in
+    let timely : instant ≡ time_of time = same_time ∙ ap time_of at_time in
+    let known : device ≡ device_named tree name = same_device ∙ ap (device_named tree) of_name in
     let same : send_read notes line h.at instant h.attempts device names r ≡ send_read notes line h.at (time_of time) h.attempts (device_named tree name) (header_names tree word) r = cc in
     let read = subst (GivesNotes now result) same g in
     let Said : List (List ℕ) → Type 0 = λ w. IsFrameRead h.at w r in
     let By : List (List ℕ) → Type 0 = λ w. Gives now result (IsHandedRead tree notes line time name h.at h.attempts w) in
     let As : Handed → Type 0 = λ k. Gives now result (IsHandedRead tree notes line time name k.at k.attempts k.words) in
-    let P : List (List ℕ) → Type 0 = λ w. Gives now result (IsSendRead tree notes line time w) in
     let given = gives (IsHandedRead tree notes line time name h.at h.attempts (word ∷ others)) now result _ read (r, subst Said parted is, refl) in
-    subst P (sym split) (subst As handed (subst By (sym (whole ∙ parted)) given))
+    subst As handed (subst By (sym (whole ∙ parted)) given)
 
 -- where nothing is
-pub none_handed : (tree : List Node) (notes : Notes) (line : ℕ) (time name : List ℕ) (rest words : List (List ℕ)) (h : HandedIn) → words ≡ name ∷ rest → IsHanded h rest → words_after (option_copied h.frame) ≡ []
-    → IsSendRead tree notes line time words (Err (at_word h.at Word))
-none_handed tree notes line time name rest words h split handed none =
+pub none_handed : (tree : List Node) (notes : Notes) (line : ℕ) (time name : List ℕ) (rest left : List (List ℕ)) (h : HandedIn) → left ≡ rest → IsHanded h left → words_after (option_copied h.frame) ≡ []
+    → IsHandedRead tree notes line time name (handed_in rest).at (handed_in rest).attempts (handed_in rest).words (Err (at_word h.at Word))
+none_handed tree notes line time name rest left h are handed_left none =
+    let handed = subst (IsHanded h) are handed_left in
     let By : List (List ℕ) → Type 0 = λ w. IsHandedRead tree notes line time name h.at h.attempts w (Err (at_word h.at Word)) in
     let As : Handed → Type 0 = λ k. IsHandedRead tree notes line time name k.at k.attempts k.words (Err (at_word h.at Word)) in
-    let P : List (List ℕ) → Type 0 = λ w. IsSendRead tree notes line time w (Err (at_word h.at Word)) in
-    subst P (sym split) (subst As handed (subst By (sym none) refl))
+    subst As handed (subst By (sym none) refl)
 
 -- the first of some lines, and those after it
 pub line_read : LinesFollow

@@ -1,5 +1,5 @@
 -- What holds of every script: the order of times, the limit, devices of the tree, frames and pulses.
-use Rattle.std.proofs.Common.{◌≡◌, ◌↔◌, ℕ, suc, ◌+◌, ◌-◌, ◌<◌, ◌≤◌, ◌==◌, ◌&&◌, ◌||◌, Bool, true, false, cond, codes, List, [], ◌∷◌, ◌++◌, length, max, min, nat_lt, nat_le, if◌then◌else◌, drop, slice_get, Option, Some, None, IfSome, is_some, option_map, Result, Ok, Err, refl, sym, ap, subst, ◌∙◌, arith}
+use Rattle.std.proofs.Common.{◌≡◌, ◌↔◌, ℕ, suc, ◌+◌, ◌-◌, ◌<◌, ◌≤◌, ◌==◌, ◌&&◌, ◌||◌, Bool, true, false, cond, codes, List, [], ◌∷◌, ◌++◌, length, max, min, nat_lt, nat_le, if◌then◌else◌, drop, get_or, slice_get, Option, Some, None, IfSome, is_some, option_map, Result, Ok, Err, refl, sym, ap, subst, ◌∙◌, arith}
 use Rattle.std.specs.Str.{bytes_eq}
 use Rattle.std.specs.Option.{option_map_or}
 use Rattle.std.specs.List.{All}
@@ -12,6 +12,10 @@ use Rattle.line_wave.specs.Pulses.{stretch_fault, gap_fault}
 use Rattle.line_wave.specs.Line.{IsWave, IsWaveFrom}
 use Rattle.line_wave.specs.Pulls.{AreTimely}
 use Rattle.line_wave.proofs.Kept.{timely_tested}
+use Rattle.text_forms.specs.Forms.{Meaning, Said as SaidBy, level_at, number_at, port_at, text_at, time_at, time_of_meaning, words_at}
+use Rattle.text_forms.specs.Forms.Meaning.{Itself, Number as NumberOf, PortOf, PortsOf, Level, KindOf, Text, Words}
+use Rattle.room_lines.specs.declared.script.ScriptVerb.{ScriptVerb}
+use Rattle.room_lines.specs.declared.script.ScriptVerb.TheVariants as verbs
 use Rattle.edid_tree.specs.Node.{Node}
 use Rattle.edid_tree.specs.Tree.{device_named}
 use Rattle.device_features.specs.declared.keys.Key.{Key as KeyValue}
@@ -19,15 +23,13 @@ use Rattle.line_wave.specs.Bounds.{latest_event, most_pulses, most_pulls, widest
 use Rattle.text_core.specs.Lines.{lines_of, is_skipped}
 use Rattle.message_text.specs.FrameReading.{is_frame}
 use Rattle.message_text.specs.declared.assembler.AssembleError.{AssembleError}
-use Rattle.text_core.specs.Words.{text_of, words_of, one_of, two_of, three_of}
+use Rattle.text_core.specs.Words.{text_of, words_of}
 use Rattle.message_hex.specs.Bytes.{after_arrow, frame_in, whole_frame}
 use Rattle.message_hex.specs.Spelling.{Spells}
 use Rattle.message_hex.proofs.Spelled.{spellings_are_read}
 use Rattle.message_hex.specs.declared.bytes.DisCause.{DisCause}
 use Rattle.message_hex.specs.declared.bytes.DisCause.TheVariants.{Length}
 use Rattle.room_script.specs.Sending.{frame_read, handed_in, hex_read, IsFrameOf, IsFrameRead, IsTextRead}
-use Rattle.text_core.specs.Number.{number_of}
-use Rattle.room_script.specs.Keys.{key_of}
 use Rattle.room_script.specs.Header.{is_named, initiator_part, destination_part, has_names, device_of, names_by, header_names, digits_text}
 use Rattle.room_script.specs.Holding.{hold_of}
 use Rattle.device_core.specs.declared.device.Ticket.{Ticket}
@@ -43,7 +45,9 @@ use Rattle.room_script.proofs.Adding.{few_pulses, none_while_low}
 use Rattle.text_core.specs.declared.at.AtWord.{AtWord}
 use Rattle.room_script.specs.declared.script.ScriptCause.{ScriptCause}
 use Rattle.room_script.specs.declared.script.ScriptError.TheVariants as errors
-use Rattle.room_script.specs.Script.{Course, Notes, within_limit, time_of, last_time, last_end, notes_with_event, plug_read, plug_words, unplug_read, unplug_words, key_read, key_words, act_read, hold_words, drop_words, send_read, frame_event, event_words, unless_fault, pulse_refusal, notes_with_pulse, span_read, pulse_read, pulse_words, touches, notes_with_pull, pull_read, pull_words, is_before, level_of, pin_falls, pin_rises, pin_stays_high, pin_stays_low, notes_with_level, pin_read, pin_words, pulses_ended, end_read, end_words, other_words, course_at_end, course_of, no_notes, IsHandedRead, IsSendRead, IsEventRead, IsWordsRead, IsLineRead, IsSchedule, AreFramedEvents, IsNoWider, MayFall, IsScript, Onward, AreLinesRead, IsScriptRead, ScriptsAreSound}
+use Rattle.room_script.specs.Rows.{IsSaid, IsSaidRead, key_said, key_time, line_said, plug_checked}
+use Rattle.room_script.proofs.ByForms.{line_same}
+use Rattle.room_script.specs.Script.{Course, Notes, time_of, last_time, last_end, notes_with_event, unplug_read, key_read, act_read, send_read, frame_event, unless_fault, pulse_refusal, notes_with_pulse, touches, notes_with_pull, is_before, pin_falls, pin_rises, pin_stays_high, pin_stays_low, notes_with_level, pulses_ended, end_read, course_at_end, course_of, no_notes, IsHandedRead, IsLineRead, IsSchedule, AreFramedEvents, IsNoWider, MayFall, IsScript, Onward, AreLinesRead, IsScriptRead, ScriptsAreSound}
 
 -- ---- times
 
@@ -229,29 +233,16 @@ scheduled-keeps count notes line time event s known framed =
 named-below : (tree : List Node) (name : List ℕ) (device : ℕ) → device_named tree name ≡ Some device → device < length tree
 named-below tree name device h = grind (arith, common_steps)
 
-plug_read-keeps : (count : ℕ) (notes : Notes) (line : ℕ) (time port child parent : Option ℕ) → AreSound count notes →
-    ((i : ℕ) → child ≡ Some i → i < count) → ((i : ℕ) → parent ≡ Some i → i < count) → Keeps count (plug_read notes line time port child parent)
-plug_read-keeps count notes line None port child parent s hc hp = keeps_err count _ refl
-plug_read-keeps count notes line (Some time) None child parent s hc hp = keeps_err count _ refl
-plug_read-keeps count notes line (Some time) (Some port) None parent s hc hp = keeps_err count _ refl
-plug_read-keeps count notes line (Some time) (Some port) (Some child) None s hc hp = keeps_err count _ refl
-plug_read-keeps count notes line (Some time) (Some port) (Some child) (Some parent) s hc hp =
-    scheduled-keeps count notes line time (Plug child parent (min port 255)) s (hc child refl, hp parent refl) tt
-
-plug_words-keeps : (tree : List Node) (notes : Notes) (line : ℕ) (time : List ℕ) (many : ℕ) (words : Option (List ℕ × List ℕ × List ℕ)) → AreSound (length tree) notes →
-    Keeps (length tree) (plug_words tree notes line time many words)
-plug_words-keeps tree notes line time many None s = keeps_err (length tree) _ refl
-plug_words-keeps tree notes line time many (Some words) s =
-    plug_read-keeps (length tree) notes line (time_of time) (number_of words.2) (device_named tree words.0) (device_named tree words.1) s (named-below tree words.0) (named-below tree words.1)
+plug-keeps : (count : ℕ) (notes : Notes) (line time port : ℕ) (child parent : Option ℕ) → AreSound count notes →
+    ((i : ℕ) → child ≡ Some i → i < count) → ((i : ℕ) → parent ≡ Some i → i < count) → Keeps count (plug_checked notes line time port child parent)
+plug-keeps count notes line time port None parent s hc hp = keeps_err count _ refl
+plug-keeps count notes line time port (Some child) None s hc hp = keeps_err count _ refl
+plug-keeps count notes line time port (Some child) (Some parent) s hc hp = scheduled-keeps count notes line time (Plug child parent port) s (hc child refl, hp parent refl) tt
 
 unplug_read-keeps : (count : ℕ) (notes : Notes) (line : ℕ) (time child : Option ℕ) → AreSound count notes → ((i : ℕ) → child ≡ Some i → i < count) → Keeps count (unplug_read notes line time child)
 unplug_read-keeps count notes line None child s hc = keeps_err count _ refl
 unplug_read-keeps count notes line (Some time) None s hc = keeps_err count _ refl
 unplug_read-keeps count notes line (Some time) (Some child) s hc = scheduled-keeps count notes line time (Unplug child) s (hc child refl) tt
-
-unplug_words-keeps : (tree : List Node) (notes : Notes) (line : ℕ) (time : List ℕ) (many : ℕ) (words : Option (List ℕ)) → AreSound (length tree) notes → Keeps (length tree) (unplug_words tree notes line time many words)
-unplug_words-keeps tree notes line time many None s = keeps_err (length tree) _ refl
-unplug_words-keeps tree notes line time many (Some word) s = unplug_read-keeps (length tree) notes line (time_of time) (device_named tree word) s (named-below tree word)
 
 key_read-keeps : (count : ℕ) (notes : Notes) (line : ℕ) (press : Bool) (key : Result KeyValue (AtWord ScriptCause)) (time device : Option ℕ) → AreSound count notes → ((i : ℕ) → device ≡ Some i → i < count) →
     Keeps count (key_read notes line press key time device)
@@ -260,37 +251,12 @@ key_read-keeps count notes line press (Ok key) None device s hd = keeps_err coun
 key_read-keeps count notes line press (Ok key) (Some time) None s hd = keeps_err count _ refl
 key_read-keeps count notes line press (Ok key) (Some time) (Some device) s hd = scheduled-keeps count notes line time (Key device key press) s (hd device refl) tt
 
-key_words-keeps : (tree : List Node) (notes : Notes) (line : ℕ) (press : Bool) (time : List ℕ) (words : List (List ℕ)) → AreSound (length tree) notes → Keeps (length tree) (key_words tree notes line press time words)
-key_words-keeps tree notes line press time [] s = keeps_err (length tree) _ refl
-key_words-keeps tree notes line press time (name ∷ words) s =
-    key_read-keeps (length tree) notes line press (key_of words) (time_of time) (device_named tree name) s (named-below tree name)
-
 act_read-keeps : (count : ℕ) (notes : Notes) (line : ℕ) (act : Option Act) (time device : Option ℕ) → AreSound count notes → ((i : ℕ) → device ≡ Some i → i < count) →
     Keeps count (act_read notes line act time device)
 act_read-keeps count notes line None time device s hd = keeps_err count _ refl
 act_read-keeps count notes line (Some act) None device s hd = keeps_err count _ refl
 act_read-keeps count notes line (Some act) (Some time) None s hd = keeps_err count _ refl
 act_read-keeps count notes line (Some act) (Some time) (Some device) s hd = scheduled-keeps count notes line time (Outside device act) s (hd device refl) tt
-
-hold_words-keeps : (tree : List Node) (notes : Notes) (line : ℕ) (time : List ℕ) (many : ℕ) (words : Option (List ℕ × List ℕ)) → AreSound (length tree) notes → Keeps (length tree) (hold_words tree notes line time many words)
-hold_words-keeps tree notes line time many None s = keeps_err (length tree) _ refl
-hold_words-keeps tree notes line time many (Some words) s =
-    act_read-keeps (length tree) notes line (hold_of words.1) (time_of time) (device_named tree words.0) s (named-below tree words.0)
-
-drop_words-keeps : (tree : List Node) (notes : Notes) (line : ℕ) (time : List ℕ) (many : ℕ) (words : Option (List ℕ)) → AreSound (length tree) notes → Keeps (length tree) (drop_words tree notes line time many words)
-drop_words-keeps tree notes line time many None s = keeps_err (length tree) _ refl
-drop_words-keeps tree notes line time many (Some word) s =
-    act_read-keeps (length tree) notes line (Some Empty) (time_of time) (device_named tree word) s (named-below tree word)
-
-event_words-keeps : (tree : List Node) (notes : Notes) (line : ℕ) (time verb : List ℕ) (words : List (List ℕ)) → AreSound (length tree) notes → Keeps (length tree) (event_words tree notes line time verb words)
-event_words-keeps tree notes line time verb words s =
-    keeps_if (length tree) (bytes_eq verb (codes "plug")) _ _ (λ e. plug_words-keeps tree notes line time (length words) (three_of words) s)
-    (λ e. keeps_if (length tree) (bytes_eq verb (codes "unplug")) _ _ (λ e. unplug_words-keeps tree notes line time (length words) (one_of words) s)
-    (λ e. keeps_if (length tree) (bytes_eq verb (codes "press")) _ _ (λ e. key_words-keeps tree notes line true time words s)
-    (λ e. keeps_if (length tree) (bytes_eq verb (codes "release")) _ _ (λ e. key_words-keeps tree notes line false time words s)
-    (λ e. keeps_if (length tree) (bytes_eq verb (codes "hold")) _ _ (λ e. hold_words-keeps tree notes line time (length words) (two_of words) s)
-    (λ e. keeps_if (length tree) (bytes_eq verb (codes "drop")) _ _ (λ e. drop_words-keeps tree notes line time (length words) (one_of words) s)
-    (λ e. keeps_err (length tree) _ refl))))))
 
 -- a frame has a block
 frame_some : (frame : List ℕ) → is_frame frame ≡ true → 0 < length frame
@@ -383,22 +349,6 @@ handed-keeps tree notes line time name at attempts (word ∷ words) next s h =
     keeps_next (length tree) (send_read notes line at (time_of time) attempts (device_named tree name) (header_names tree word) h.0) next
     (send_read-keeps (length tree) notes line at (time_of time) attempts (device_named tree name) (header_names tree word) h.0 s (named-below tree name) (header-below tree word) (λ f e. said_some at (word ∷ words) f (subst Said e h.1))) (sym h.2)
 
-send-keeps : (tree : List Node) (notes : Notes) (line : ℕ) (time : List ℕ) (words : List (List ℕ)) (next : Notes) → AreSound (length tree) notes → IsSendRead tree notes line time words (Ok next) → AreSound (length tree) next
-send-keeps tree notes line time [] next s h = cc
-send-keeps tree notes line time (name ∷ words) next s h = handed-keeps tree notes line time name (handed_in words).at (handed_in words).attempts (handed_in words).words next s h
-
-event-keeps : (tree : List Node) (notes : Notes) (line : ℕ) (words : List (List ℕ)) (next : Notes) → AreSound (length tree) notes → IsEventRead tree notes line words (Ok next) → AreSound (length tree) next
-event-keeps tree notes line [] next s h = cc
-event-keeps tree notes line (time ∷ []) next s h = cc
-event-keeps tree notes line (time ∷ verb ∷ words) next s h =
-    by_cond (bytes_eq verb (codes "send")) (IsSendRead tree notes line time words (Ok next)) (Ok next ≡ event_words tree notes line time verb words) (AreSound (length tree) next)
-    (λ p. send-keeps tree notes line time words next s p)
-    (λ q. keeps_next (length tree) (event_words tree notes line time verb words) next (event_words-keeps tree notes line time verb words s) (sym q)) h
-
-within_limit-limit : (o : Option ℕ) (time : ℕ) → within_limit o ≡ Some time → time ≤ latest_event
-within_limit-limit None time h = cc
-within_limit-limit (Some n) time h = grind (arith, nat_tests)
-
 -- one more that is pulled low from outside
 sound_with : (count : ℕ) (notes : Notes) (pulse : Stretch) → AreSound count notes → pulse.from ≤ latest_event → free_after (last_end notes.pulses) ≤ pulse.from → pulse.from < pulse.to → IsNoWider pulse
     → AreSound count (record notes { pulses = notes.pulses ++ pulse ∷ []; pin = None })
@@ -443,15 +393,6 @@ pulsed-keeps count notes waiting pulse s within =
 
     apart : pulse_refusal notes.pin (last_end notes.pulses) pulse ≡ None → IsApart (last_end notes.pulses) pulse
     apart e = pulse-apart (last_end notes.pulses) pulse (by notes.pin e (high e))
-
-pulse_read-keeps : (count : ℕ) (notes : Notes) (waiting : ℕ) (time width : Option ℕ) → AreSound count notes → ((t : ℕ) → time ≡ Some t → t ≤ latest_event) → Keeps count (pulse_read notes waiting (span_read time width))
-pulse_read-keeps count notes waiting None width s limit = keeps_err count _ refl
-pulse_read-keeps count notes waiting (Some time) None s limit = keeps_err count _ refl
-pulse_read-keeps count notes waiting (Some time) (Some width) s limit = pulsed-keeps count notes waiting (record { from = time; to = time + min width 65535 }) s (limit time refl)
-
-pulse_words-keeps : (count : ℕ) (notes : Notes) (waiting many : ℕ) (words : Option (List ℕ × List ℕ)) → AreSound count notes → Keeps count (pulse_words notes waiting many words)
-pulse_words-keeps count notes waiting many None s = keeps_err count _ refl
-pulse_words-keeps count notes waiting many (Some words) s = pulse_read-keeps count notes waiting (time_of words.0) (number_of words.1) s (within_limit-limit (number_of words.0))
 
 -- none of two
 both_false : (a b : Bool) → (a || b) ≡ false → (a ≡ false) × (b ≡ false)
@@ -522,24 +463,6 @@ level-keeps count notes waiting time None true s is within = high-keeps count no
 level-keeps count notes waiting time (Some from) false s is within = low-keeps count notes from time s
 level-keeps count notes waiting time (Some from) true s is within = rise-keeps count notes from time s is within
 
-pin_read-keeps : (count : ℕ) (notes : Notes) (waiting : ℕ) (time : Option ℕ) (level : Option Bool) → AreSound count notes → ((t : ℕ) → time ≡ Some t → t ≤ latest_event) → Keeps count (pin_read notes waiting time level)
-pin_read-keeps count notes waiting None level s limit = keeps_err count _ refl
-pin_read-keeps count notes waiting (Some time) None s limit = keeps_err count _ refl
-pin_read-keeps count notes waiting (Some time) (Some level) s limit = level-keeps count notes waiting time notes.pin level s refl (limit time refl)
-
-pin_words-keeps : (count : ℕ) (notes : Notes) (waiting many : ℕ) (words : Option (List ℕ × List ℕ)) → AreSound count notes → Keeps count (pin_words notes waiting many words)
-pin_words-keeps count notes waiting many None s = keeps_err count _ refl
-pin_words-keeps count notes waiting many (Some words) s = pin_read-keeps count notes waiting (time_of words.0) (level_of words.1) s (within_limit-limit (number_of words.0))
-
-pull_read-keeps : (count : ℕ) (notes : Notes) (waiting : ℕ) (time width : Option ℕ) → AreSound count notes → ((t : ℕ) → time ≡ Some t → t ≤ latest_event) → Keeps count (pull_read notes waiting (span_read time width))
-pull_read-keeps count notes waiting None width s limit = keeps_err count _ refl
-pull_read-keeps count notes waiting (Some time) None s limit = keeps_err count _ refl
-pull_read-keeps count notes waiting (Some time) (Some width) s limit = pulled-keeps count notes waiting time width s (limit time refl)
-
-pull_words-keeps : (count : ℕ) (notes : Notes) (waiting many : ℕ) (words : Option (List ℕ × List ℕ)) → AreSound count notes → Keeps count (pull_words notes waiting many words)
-pull_words-keeps count notes waiting many None s = keeps_err count _ refl
-pull_words-keeps count notes waiting many (Some words) s = pull_read-keeps count notes waiting (time_of words.0) (number_of words.1) s (within_limit-limit (number_of words.0))
-
 -- after every event there is
 ends_after : (count time : ℕ) (events : List TimedEvent) → IsSchedule count (last_time events + 1) 0 events → (nat_lt 0 (length events) && nat_le time (last_time events)) ≡ false → IsSchedule count time 0 events
 ends_after count time [] s h = tt
@@ -576,30 +499,68 @@ end_read-keeps count notes (Some time) s limit =
         let fell = (s.held from is).1 in
         sound_risen count notes from (max time (min from latest_event + 1)) s is (omega (arith, fell)) (omega (arith, fell, within))
 
-end_words-keeps : (count : ℕ) (notes : Notes) (many : ℕ) (words : Option (List ℕ)) → AreSound count notes → Keeps count (end_words notes many words)
-end_words-keeps count notes many None s = keeps_err count _ refl
-end_words-keeps count notes many (Some word) s = end_read-keeps count notes (time_of word) s (within_limit-limit (number_of word))
+-- no time of a line is past the latest
+in_time : (m : Meaning) → time_of_meaning m ≤ latest_event
+in_time Itself = omega arith
+in_time (NumberOf n) = omega arith
+in_time (PortOf n) = omega arith
+in_time (PortsOf n) = omega arith
+in_time (Level is) = omega arith
+in_time (KindOf kind) = omega arith
+in_time (Text word) = omega arith
+in_time (Words words) = omega arith
 
-other_words-keeps : (count : ℕ) (notes : Notes) (waiting : ℕ) (verb : List ℕ) (words : List (List ℕ)) → AreSound count notes → Keeps count (other_words notes waiting verb words)
-other_words-keeps count notes waiting verb words s =
-    keeps_if count (bytes_eq verb (codes "pulse")) _ _ (λ e. pulse_words-keeps count notes waiting (length words) (two_of words) s)
-    (λ e. keeps_if count (bytes_eq verb (codes "pull")) _ _ (λ e. pull_words-keeps count notes waiting (length words) (two_of words) s)
-    (λ e. keeps_if count (bytes_eq verb (codes "pin")) _ _ (λ e. pin_words-keeps count notes waiting (length words) (two_of words) s)
-    (λ e. keeps_if count (bytes_eq verb (codes "end")) _ _ (λ e. end_words-keeps count notes (length words) (one_of words) s) (λ e. keeps_err count _ refl))))
+timed : (values : List Meaning) (place : ℕ) → time_at values place ≤ latest_event
+timed values place = in_time (get_or values place Itself)
 
-words-keep : (tree : List Node) (notes : Notes) (waiting line : ℕ) (words : List (List ℕ)) (next : Notes) → AreSound (length tree) notes → IsWordsRead tree notes waiting line words (Ok next) → AreSound (length tree) next
-words-keep tree notes waiting line [] next s h = cc
-words-keep tree notes waiting line (verb ∷ words) next s h =
-    by_cond (bytes_eq verb (codes "at")) (IsEventRead tree notes line words (Ok next)) (Ok next ≡ other_words notes waiting verb words) (AreSound (length tree) next)
-    (λ p. event-keeps tree notes line words next s p)
-    (λ q. keeps_next (length tree) (other_words notes waiting verb words) next (other_words-keeps (length tree) notes waiting verb words s) (sym q)) h
+-- the values of a form
+said-keeps : (tree : List Node) (notes : Notes) (waiting line : ℕ) (verb : ScriptVerb) (values : List Meaning) (next : Notes) → AreSound (length tree) notes → IsSaid tree notes waiting line verb values (Ok next)
+    → AreSound (length tree) next
+said-keeps tree notes waiting line (verbs.Press word) values next s h =
+    keeps_next (length tree) (key_read notes line true (key_said word values) (key_time word values) (device_named tree (text_at values 3))) next
+    (key_read-keeps (length tree) notes line true (key_said word values) (key_time word values) (device_named tree (text_at values 3)) s (named-below tree (text_at values 3))) (sym h)
+said-keeps tree notes waiting line (verbs.Release word) values next s h =
+    keeps_next (length tree) (key_read notes line false (key_said word values) (key_time word values) (device_named tree (text_at values 3))) next
+    (key_read-keeps (length tree) notes line false (key_said word values) (key_time word values) (device_named tree (text_at values 3)) s (named-below tree (text_at values 3))) (sym h)
+said-keeps tree notes waiting line verbs.Plug values next s h =
+    keeps_next (length tree) (plug_checked notes line (time_at values 1) (port_at values 5) (device_named tree (text_at values 3)) (device_named tree (text_at values 4))) next
+    (plug-keeps (length tree) notes line (time_at values 1) (port_at values 5) (device_named tree (text_at values 3)) (device_named tree (text_at values 4)) s (named-below tree (text_at values 3)) (named-below tree (text_at values 4))) (sym h)
+said-keeps tree notes waiting line verbs.Unplug values next s h =
+    keeps_next (length tree) (unplug_read notes line (Some (time_at values 1)) (device_named tree (text_at values 3))) next
+    (unplug_read-keeps (length tree) notes line (Some (time_at values 1)) (device_named tree (text_at values 3)) s (named-below tree (text_at values 3))) (sym h)
+said-keeps tree notes waiting line verbs.Send values next s h =
+    let handed = handed_in (words_at values 4) in
+    handed-keeps tree notes line (text_at values 1) (text_at values 3) handed.at handed.attempts handed.words next s h
+said-keeps tree notes waiting line verbs.Hold values next s h =
+    keeps_next (length tree) (act_read notes line (hold_of (text_at values 4)) (time_of (text_at values 1)) (device_named tree (text_at values 3))) next
+    (act_read-keeps (length tree) notes line (hold_of (text_at values 4)) (time_of (text_at values 1)) (device_named tree (text_at values 3)) s (named-below tree (text_at values 3))) (sym h)
+said-keeps tree notes waiting line verbs.Drop values next s h =
+    keeps_next (length tree) (act_read notes line (Some Empty) (Some (time_at values 1)) (device_named tree (text_at values 3))) next
+    (act_read-keeps (length tree) notes line (Some Empty) (Some (time_at values 1)) (device_named tree (text_at values 3)) s (named-below tree (text_at values 3))) (sym h)
+said-keeps tree notes waiting line verbs.Pulse values next s h =
+    let pulse : Stretch = record { from = time_at values 1; to = time_at values 1 + min (number_at values 2) 65535 } in
+    keeps_next (length tree) (notes_with_pulse notes waiting pulse) next (pulsed-keeps (length tree) notes waiting pulse s (timed values 1)) (sym h)
+said-keeps tree notes waiting line verbs.Pull values next s h =
+    keeps_next (length tree) (notes_with_pull notes waiting (time_at values 1) (number_at values 2)) next (pulled-keeps (length tree) notes waiting (time_at values 1) (number_at values 2) s (timed values 1)) (sym h)
+said-keeps tree notes waiting line verbs.Pin values next s h =
+    keeps_next (length tree) (notes_with_level notes waiting (time_at values 1) notes.pin (level_at values 2)) next
+    (level-keeps (length tree) notes waiting (time_at values 1) notes.pin (level_at values 2) s refl (timed values 1)) (sym h)
+said-keeps tree notes waiting line verbs.End values next s h =
+    keeps_next (length tree) (end_read notes (Some (time_at values 1))) next (end_read-keeps (length tree) notes (Some (time_at values 1)) s in_limit) (sym h)
+  where
+    in_limit : (t : ℕ) → Some (time_at values 1) ≡ Some t → t ≤ latest_event
+    in_limit t e = let is : time_at values 1 ≡ t = cc in subst (λ (n : ℕ). n ≤ latest_event) is (timed values 1)
+
+form-keeps : (tree : List Node) (notes : Notes) (waiting line : ℕ) (said : SaidBy ScriptVerb) (next : Notes) → AreSound (length tree) notes → IsSaidRead tree notes waiting line said (Ok next) → AreSound (length tree) next
+form-keeps tree notes waiting line (Err fault) next s h = cc
+form-keeps tree notes waiting line (Ok said) next s h = said-keeps tree notes waiting line said.0 said.1 next s h
 
 -- a line that is taken keeps it
 pub line-keeps : LinesKeepSound
 line-keeps tree notes waiting line text next s h =
-    by_cond (is_skipped text) (Ok next ≡ Ok notes) (IsWordsRead tree notes waiting line (words_of text) (Ok next)) (AreSound (length tree) next)
+    by_cond (is_skipped text) (Ok next ≡ Ok notes) (IsSaidRead tree notes waiting line (line_said (words_of text)) (Ok next)) (AreSound (length tree) next)
     (λ p. keeps_next (length tree) (Ok notes) next (keeps_ok (length tree) notes s) (sym p))
-    (λ q. words-keep tree notes waiting line (words_of text) next s q) h
+    (λ q. form-keeps tree notes waiting line (line_said (words_of text)) next s q) ((line_same tree notes waiting line text (Ok next)).1 h)
 
 -- pulls in order that begin early enough and are no wider than they may be
 timely : (pulses : List Stretch) → length pulses ≤ most_pulls → IsWave pulses → All IsNoWider pulses → All IsEarly pulses → AreTimely pulses

@@ -5,4 +5,5 @@ pub mod Holding
 pub mod Topology
 pub mod Script
 pub mod Sending
+pub mod Rows
 pub mod Lines

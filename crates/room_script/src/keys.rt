@@ -1,51 +1,18 @@
-//! Words of keys.
-ghost use Rattle.std.specs.Prelude.{◌≡◌, ◌≤◌, ◌<◌};
+//! Keys of scripts.
+ghost use Rattle.std.specs.Prelude.{◌≡◌};
 ghost use Rattle.std.specs.List.{list_all};
 ghost use Rattle.std.specs.Char.{is_ascii_lowercase};
-ghost use Rattle.std.specs.Option.{option_copied};
-ghost use Rattle.device_features.specs.KeyWords.{key_named};
-ghost use Rattle.text_core.specs.Number.{number_of};
-ghost use Rattle.text_core.specs.Words.{words_after};
-ghost use Rattle.room_script.specs.Keys.{key_alone, switch_of, language_of, destination_of, code_of, control_of, key_or_cause, port_key, values_of, unfit, key_with, remote_by, remote_key, of_one, of_two, of_three, key_of};
+ghost use Rattle.text_forms.specs.Forms.{values_of};
+ghost use Rattle.room_script.specs.Keys.{language_of, destination_of, code_of, control_of, key_or_cause, remote_by};
+ghost use Rattle.room_script.specs.Rows.{key_said, key_time};
 
-use crate::fault::misfit;
-use crate::script::ScriptCause;
+use crate::script::{ScriptCause, time_in};
 use device_features::{Key, KeyWord, VolumeKey};
 use line_frames::Addr;
 use message_table::{Triple, UserControl, WordSet};
-use text_core::{
-    AtWord, Phys, at_word, digit_value, first_word, is_hex_digit, number_in, one_word, three_words,
-    two_words,
-};
-
-fn key_alone(fault: AtWord<ScriptCause>, word: KeyWord) -> Result<Key, AtWord<ScriptCause>>
-    ensures { result ≡ key_alone fault word }
-{
-    match word {
-        KeyWord::Play => Ok(Key::Play),
-        KeyWord::Stop => Ok(Key::Stop),
-        KeyWord::Eject => Ok(Key::Eject),
-        KeyWord::Load => Ok(Key::Load),
-        KeyWord::Menu => Ok(Key::Menu),
-        KeyWord::Power => Ok(Key::Power),
-        KeyWord::VolumeUp => Ok(Key::Volume(VolumeKey::Up)),
-        KeyWord::VolumeDown => Ok(Key::Volume(VolumeKey::Down)),
-        KeyWord::Mute => Ok(Key::Volume(VolumeKey::Mute)),
-        _ => Err(fault),
-    }
-}
-
-fn switch_in(word: &[u8]) -> Option<bool>
-    ensures { result ≡ switch_of word.now }
-{
-    if word == b"on".as_slice() {
-        Some(true)
-    } else if word == b"off".as_slice() {
-        Some(false)
-    } else {
-        None
-    }
-}
+use room_lines::ScriptVerb;
+use text_core::{AtWord, Phys, at_word, digit_value, is_hex_digit};
+use text_forms::FormLine;
 
 fn are_letters(word: &[u8]) -> bool
     ensures { result ≡ list_all is_ascii_lowercase word.now }
@@ -88,70 +55,10 @@ fn control_in(word: &[u8]) -> Option<UserControl>
     Some(UserControl::from_byte(code_in(word)?))
 }
 
-// How many words stand after a key's first one.
-fn values_of(word: KeyWord) -> usize
-    ensures value { result ≡ values_of word }
-    ensures few { result ≤ 2 }
-{
-    match word {
-        KeyWord::Play
-        | KeyWord::Stop
-        | KeyWord::Eject
-        | KeyWord::Load
-        | KeyWord::Menu
-        | KeyWord::Power
-        | KeyWord::VolumeUp
-        | KeyWord::VolumeDown
-        | KeyWord::Mute => 0,
-        KeyWord::Port | KeyWord::Watch | KeyWord::Language | KeyWord::Audio | KeyWord::Arc => 1,
-        KeyWord::Remote => 2,
-    }
-}
-
-// Why words are no key, of which others than a key has are left.
-fn unfit(rest: Option<&[u8]>) -> AtWord<ScriptCause>
-    ensures { result ≡ unfit (words_after (option_copied rest.entry)) }
-{
-    let Some(rest) = rest else {
-        return at_word(4, ScriptCause::Word);
-    };
-    let (word, values) = first_word(rest);
-    match KeyWord::named(word) {
-        None => at_word(4, ScriptCause::Word),
-        Some(word) => misfit(5, values, values_of(word)),
-    }
-}
-
 fn key_or_cause(key: Option<Key>) -> Result<Key, AtWord<ScriptCause>>
     ensures { result ≡ key_or_cause key }
 {
     key.ok_or(at_word(5, ScriptCause::Word))
-}
-
-fn port_key(word: &[u8]) -> Result<Key, AtWord<ScriptCause>>
-    ensures { result ≡ port_key (number_of word.now) }
-{
-    match number_in(word) {
-        Some(port) => Ok(Key::Port(port.min(255) as u8)),
-        None => Err(at_word(5, ScriptCause::Number)),
-    }
-}
-
-fn key_with(
-    fault: AtWord<ScriptCause>,
-    word: KeyWord,
-    value: &[u8],
-) -> Result<Key, AtWord<ScriptCause>>
-    ensures { result ≡ key_with fault word value.now }
-{
-    match word {
-        KeyWord::Watch => key_or_cause(Phys::read(value).map(Key::Watch)),
-        KeyWord::Port => port_key(value),
-        KeyWord::Audio => key_or_cause(switch_in(value).map(|on| Key::Audio { on })),
-        KeyWord::Arc => key_or_cause(switch_in(value).map(|on| Key::Arc { on })),
-        KeyWord::Language => key_or_cause(language_in(value).map(Key::Language)),
-        _ => Err(fault),
-    }
 }
 
 fn remote_by(to: Option<Addr>, code: Option<UserControl>) -> Result<Key, AtWord<ScriptCause>>
@@ -166,71 +73,49 @@ fn remote_by(to: Option<Addr>, code: Option<UserControl>) -> Result<Key, AtWord<
     Ok(Key::Remote { to, code })
 }
 
-fn remote_key(
-    fault: AtWord<ScriptCause>,
+/// The key that the values of its form say.
+pub(crate) fn key_said(
     word: KeyWord,
-    to: &[u8],
-    code: &[u8],
+    line: &FormLine<'_, ScriptVerb>,
 ) -> Result<Key, AtWord<ScriptCause>>
-    ensures { result ≡ remote_key fault word to.now code.now }
+    ensures { result ≡ key_said word (values_of line.now) }
 {
-    if word == KeyWord::Remote {
-        remote_by(destination_in(to), control_in(code))
-    } else {
-        Err(fault)
+    match word {
+        KeyWord::Play => Ok(Key::Play),
+        KeyWord::Stop => Ok(Key::Stop),
+        KeyWord::Eject => Ok(Key::Eject),
+        KeyWord::Load => Ok(Key::Load),
+        KeyWord::Menu => Ok(Key::Menu),
+        KeyWord::Power => Ok(Key::Power),
+        KeyWord::VolumeUp => Ok(Key::Volume(VolumeKey::Up)),
+        KeyWord::VolumeDown => Ok(Key::Volume(VolumeKey::Down)),
+        KeyWord::Mute => Ok(Key::Volume(VolumeKey::Mute)),
+        KeyWord::Port => Ok(Key::Port(line.port(5))),
+        KeyWord::Watch => key_or_cause(Phys::read(line.text(5)).map(Key::Watch)),
+        KeyWord::Language => key_or_cause(language_in(line.text(5)).map(Key::Language)),
+        KeyWord::Audio => Ok(Key::Audio { on: line.level(5) }),
+        KeyWord::Arc => Ok(Key::Arc { on: line.level(5) }),
+        KeyWord::Remote => remote_by(destination_in(line.text(5)), control_in(line.text(6))),
     }
 }
 
-// A key of one word, of a word and what it takes, and of a word and two that it takes.
-fn key_of_one(fault: AtWord<ScriptCause>, word: &[u8]) -> Result<Key, AtWord<ScriptCause>>
-    ensures { result ≡ of_one fault (key_named word.now) }
+/// The time of its line: what a key takes comes before it, in the order of causes.
+pub(crate) fn key_time(word: KeyWord, line: &FormLine<'_, ScriptVerb>) -> Option<u64>
+    ensures { result ≡ key_time word (values_of line.now) }
 {
-    match KeyWord::named(word) {
-        Some(word) => key_alone(fault, word),
-        None => Err(fault),
+    match word {
+        KeyWord::Watch | KeyWord::Language | KeyWord::Remote => time_in(line.text(1)),
+        KeyWord::Play
+        | KeyWord::Stop
+        | KeyWord::Eject
+        | KeyWord::Load
+        | KeyWord::Menu
+        | KeyWord::Power
+        | KeyWord::VolumeUp
+        | KeyWord::VolumeDown
+        | KeyWord::Mute
+        | KeyWord::Port
+        | KeyWord::Audio
+        | KeyWord::Arc => Some(line.time(1)),
     }
-}
-
-fn key_of_two(
-    fault: AtWord<ScriptCause>,
-    word: &[u8],
-    value: &[u8],
-) -> Result<Key, AtWord<ScriptCause>>
-    ensures { result ≡ of_two fault (key_named word.now) value.now }
-{
-    match KeyWord::named(word) {
-        Some(word) => key_with(fault, word, value),
-        None => Err(fault),
-    }
-}
-
-fn key_of_three(
-    fault: AtWord<ScriptCause>,
-    word: &[u8],
-    to: &[u8],
-    code: &[u8],
-) -> Result<Key, AtWord<ScriptCause>>
-    ensures { result ≡ of_three fault (key_named word.now) to.now code.now }
-{
-    match KeyWord::named(word) {
-        Some(word) => remote_key(fault, word, to, code),
-        None => Err(fault),
-    }
-}
-
-/// The key that the words left say: one word, or a word and what it takes. They stand after four others.
-pub fn key_in(rest: Option<&[u8]>) -> Result<Key, AtWord<ScriptCause>>
-    ensures { result ≡ key_of (words_after (option_copied rest.entry)) }
-{
-    let fault = unfit(rest);
-    if let Some(word) = one_word(rest) {
-        return key_of_one(fault, word);
-    }
-    if let Some((word, value)) = two_words(rest) {
-        return key_of_two(fault, word, value);
-    }
-    if let Some((word, to, code)) = three_words(rest) {
-        return key_of_three(fault, word, to, code);
-    }
-    Err(fault)
 }

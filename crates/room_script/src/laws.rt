@@ -1,10 +1,14 @@
 //! Laws of the texts of scripts.
-ghost use Rattle.std.specs.Prelude.{◌≡◌, ℕ, List, ◌∷◌, Ok};
+ghost use Rattle.std.specs.Prelude.{◌≡◌, ◌↔◌, ℕ, List, ◌∷◌, Result, Ok};
 ghost use Rattle.device_features.specs.KeyWords.{key_text, word_of_key};
 ghost use Rattle.device_features.specs.declared.keys.Key.{Key};
 ghost use Rattle.room_script.specs.Keys.{key_of};
 ghost use Rattle.room_script.specs.Lines.{AnswersAreGiven, LinesAdd, LinesAreOfScripts, LinesEnd, LinesFollow, LinesKeepFew, LinesKeepSound, NoneAreSound, SoundAreTimely};
-ghost use Rattle.room_script.specs.Script.{OneScript, ScriptsAreSound};
+ghost use Rattle.room_script.specs.Script.{IsLineRead, Notes, OneScript, ScriptsAreSound};
+ghost use Rattle.room_script.specs.Rows.{IsFormRead};
+ghost use Rattle.room_script.specs.declared.script.ScriptCause.{ScriptCause};
+ghost use Rattle.edid_tree.specs.Node.{Node};
+ghost use Rattle.text_core.specs.declared.at.AtWord.{AtWord};
 
 /// Every text of a script gives events in the order of their times, of devices that are there and of frames that are
 /// not empty, and pulses and pulls in order.
@@ -44,4 +48,10 @@ pub fn lines_are_read_in_order()
     ensures first { LinesFollow }
     ensures last { LinesEnd }
     ensures given { AnswersAreGiven }
+{}
+
+/// A line of a script says by the table of its forms what it says by its words: the same notes, or the same cause at the same word.
+pub fn lines_are_read_by_forms()
+    ensures { (tree : List Node) (notes : Notes) (waiting line : ℕ) (text : List ℕ) (read : Result Notes (AtWord ScriptCause))
+        → IsFormRead tree notes waiting line text read ↔ IsLineRead tree notes waiting line text read }
 {}

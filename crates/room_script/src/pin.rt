@@ -1,27 +1,11 @@
 //! The lines of a device's own pin.
-ghost use Rattle.std.specs.Prelude.{◌≡◌, ◌+◌, length, max, min, OnErr};
-ghost use Rattle.std.specs.Option.{option_copied};
+ghost use Rattle.std.specs.Prelude.{◌≡◌, ◌+◌, max, min, OnErr};
 ghost use Rattle.line_wave.specs.Bounds.{latest_event};
-ghost use Rattle.text_core.specs.Words.{words_after, two_of};
-ghost use Rattle.room_script.specs.Script.{is_before, level_of, notes_of, notes_with_level, pin_falls, pin_rises, pin_stays_high, pin_stays_low, pin_words, GivesNotes};
+ghost use Rattle.room_script.specs.Script.{is_before, notes_of, notes_with_level, pin_falls, pin_rises, pin_stays_high, pin_stays_low, GivesNotes};
 
-use crate::fault::misfit;
-use crate::script::{ScriptCause, ScriptDraft, ScriptLineError, last_end, time_in, touches};
+use crate::script::{ScriptCause, ScriptDraft, ScriptLineError, last_end, touches};
 use line_wave::{LATEST_EVENT, MOST_PULLS, Stretch};
-use text_core::{at_word, two_words};
-
-/// A level of the line: false is low.
-fn level_in(word: &[u8]) -> Option<bool>
-    ensures { result ≡ level_of word.now }
-{
-    if word == b"0".as_slice() {
-        Some(false)
-    } else if word == b"1".as_slice() {
-        Some(true)
-    } else {
-        None
-    }
-}
+use text_core::at_word;
 
 /// The pull of a pin that the end lets go.
 pub(crate) fn end_pull(from: u64, end: u64) -> Stretch
@@ -95,7 +79,8 @@ fn take_low(draft: &ScriptDraft, from: u64, time: u64) -> Result<(), ScriptLineE
     Ok(())
 }
 
-fn take_level(
+/// Takes a level of the pin.
+pub(crate) fn take_level(
     draft: &mut ScriptDraft,
     waiting: usize,
     time: u64,
@@ -110,25 +95,4 @@ fn take_level(
         Some(from) if level => take_rise(draft, from, time),
         Some(from) => take_low(draft, from, time),
     }
-}
-
-/// Takes the words after `pin`.
-pub(crate) fn take_pin(
-    draft: &mut ScriptDraft,
-    waiting: usize,
-    rest: Option<&[u8]>,
-) -> Result<(), ScriptLineError>
-    ensures gives { GivesNotes (notes_of draft.new) result (pin_words (notes_of draft.old) waiting (length (words_after (option_copied rest.entry))) (two_of (words_after (option_copied rest.entry)))) }
-    ensures kept { OnErr result (notes_of draft.new ≡ notes_of draft.old) }
-{
-    let Some((time, level)) = two_words(rest) else {
-        return Err(ScriptLineError::Fault(misfit(1, rest, 2)));
-    };
-    let Some(time) = time_in(time) else {
-        return Err(ScriptLineError::Fault(at_word(1, ScriptCause::Number)));
-    };
-    let Some(level) = level_in(level) else {
-        return Err(ScriptLineError::Fault(at_word(2, ScriptCause::Number)));
-    };
-    take_level(draft, waiting, time, level)
 }

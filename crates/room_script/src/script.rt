@@ -1,31 +1,34 @@
 //! The texts of scripts.
 ghost use Rattle.std.specs.Prelude.{◌≡◌, ◌+◌, ◌<◌, ◌≤◌, true, length, Result, Ok, Err, Some, None, IfOk, OnErr};
-ghost use Rattle.std.specs.Option.{option_copied};
 ghost use Rattle.line_wave.specs.Bounds.{latest_event};
 ghost use Rattle.line_wave.specs.Pulls.{are_timely};
-ghost use Rattle.text_core.specs.Words.{words_of, words_after, one_of, two_of, three_of};
-ghost use Rattle.room_script.specs.Script.{no_notes, notes_of, course_of, time_of, last_time, last_end, notes_with_event, plug_words, unplug_words, key_words, act_read, hold_words, drop_words, event_words, pulse_fault, pulse_refusal, notes_with_pulse, span_words, pulse_words, touches, notes_with_pull, pull_words, end_words, other_words, course_at_end, error_at, IsEventRead, IsLineRead, GivesNotes, Gives, GivesCourse, GivesScript, IsScript};
+ghost use Rattle.text_core.specs.Words.{words_of};
+ghost use Rattle.text_forms.specs.Forms.{port_at, said, text_at, time_at, values_of};
+ghost use Rattle.edid_tree.specs.Tree.{device_named};
+ghost use Rattle.device_core.specs.declared.outside.Act.TheVariants.{Empty};
+ghost use Rattle.room_script.specs.Holding.{hold_of};
+ghost use Rattle.room_script.specs.Rows.{fault_as, key_said, key_time, line_said, plug_checked, IsSaid, IsSaidRead};
+ghost use Rattle.room_script.specs.Script.{no_notes, notes_of, course_of, time_of, last_time, last_end, notes_with_event, unplug_read, key_read, act_read, pulse_fault, pulse_refusal, notes_with_pulse, pulse_read, touches, pull_read, end_read, course_at_end, error_at, IsLineRead, IsWordsRead, GivesNotes, Gives, GivesCourse, GivesScript, IsScript};
 
 use crate::course::Script;
-use crate::fault::misfit;
 use crate::holding::hold_in;
-use crate::keys::key_in;
-use crate::pin::{end_pull, take_pin};
+use crate::keys::{key_said, key_time};
+use crate::pin::{end_pull, take_level};
 use crate::sending::take_send;
 use crate::topology::Topology;
 use device_core::Act;
+use device_features::KeyWord;
 use edid_tree::Tree;
 use line_wave::{
     LATEST_EVENT, MOST_PULLS, MOST_PULSES, PulsesError, Stretch, WIDEST_PULL, stretch_fault,
 };
 use message_text::AssembleError;
 use room_event::Event;
+use room_lines::{SCRIPT, ScriptVerb};
 use std::alloc::{AllocError, AllocFailed, Global};
 use std::fmt::{self, Write};
-use text_core::{
-    At, AtWord, at_word, first_line, first_word, is_skipped, number_in, one_word, three_words,
-    two_words,
-};
+use text_core::{At, AtWord, at_word, first_line, is_skipped, number_in};
+use text_forms::{FormLine, LineCause, read_line};
 use thiserror::Error;
 
 /// Widths of pulses above this many microseconds count as this many.
@@ -206,17 +209,6 @@ pub(crate) fn last_end(pulses: &[Stretch]) -> Option<u64>
     }
 }
 
-/// What a line of an event says beside the verb.
-#[derive(Clone, Copy)]
-pub(crate) struct EventWords<'t> {
-    /// The line's number.
-    pub(crate) line: u64,
-    /// The word of its time.
-    pub(crate) time: &'t [u8],
-    /// What stands after the verb.
-    pub(crate) rest: Option<&'t [u8]>,
-}
-
 pub(crate) fn schedule(
     draft: &mut ScriptDraft,
     line: u64,
@@ -240,35 +232,28 @@ pub(crate) fn schedule(
     Ok(())
 }
 
-/// Takes the words after `at T plug`.
+/// Plugs one device into a port of another.
 fn take_plug(
     tree: &Tree<15>,
     draft: &mut ScriptDraft,
-    words: EventWords<'_>,
+    number: u64,
+    line: &FormLine<'_, ScriptVerb>,
 ) -> Result<(), ScriptLineError>
-    ensures gives { GivesNotes (notes_of draft.new) result (plug_words tree.now (notes_of draft.old) words.entry.line words.entry.time.now (length (words_after (option_copied words.entry.rest))) (three_of (words_after (option_copied words.entry.rest)))) }
+    ensures gives { GivesNotes (notes_of draft.new) result (plug_checked (notes_of draft.old) number (time_at (values_of line.now) 1) (port_at (values_of line.now) 5)
+        (device_named tree.now (text_at (values_of line.now) 3)) (device_named tree.now (text_at (values_of line.now) 4))) }
     ensures kept { OnErr result (notes_of draft.new ≡ notes_of draft.old) }
 {
-    let Some((child, parent, port)) = three_words(words.rest) else {
-        return Err(ScriptLineError::Fault(misfit(3, words.rest, 3)));
-    };
-    let Some(time) = time_in(words.time) else {
-        return Err(ScriptLineError::Fault(at_word(1, ScriptCause::Number)));
-    };
-    let Some(port) = number_in(port) else {
-        return Err(ScriptLineError::Fault(at_word(5, ScriptCause::Number)));
-    };
-    let Some(child) = tree.device_named(child) else {
+    let Some(child) = tree.device_named(line.text(3)) else {
         return Err(ScriptLineError::Fault(at_word(3, ScriptCause::Name)));
     };
-    let Some(parent) = tree.device_named(parent) else {
+    let Some(parent) = tree.device_named(line.text(4)) else {
         return Err(ScriptLineError::Fault(at_word(4, ScriptCause::Name)));
     };
-    let port = port.min(255) as u8;
+    let port = line.port(5);
     schedule(
         draft,
-        words.line,
-        time,
+        number,
+        line.time(1),
         Event::Plug {
             child,
             parent,
@@ -277,52 +262,46 @@ fn take_plug(
     )
 }
 
-/// Takes the word after `at T unplug`.
+/// Unplugs a device.
 fn take_unplug(
     tree: &Tree<15>,
     draft: &mut ScriptDraft,
-    words: EventWords<'_>,
+    number: u64,
+    line: &FormLine<'_, ScriptVerb>,
 ) -> Result<(), ScriptLineError>
-    ensures gives { GivesNotes (notes_of draft.new) result (unplug_words tree.now (notes_of draft.old) words.entry.line words.entry.time.now (length (words_after (option_copied words.entry.rest))) (one_of (words_after (option_copied words.entry.rest)))) }
+    ensures gives { GivesNotes (notes_of draft.new) result (unplug_read (notes_of draft.old) number (Some (time_at (values_of line.now) 1)) (device_named tree.now (text_at (values_of line.now) 3))) }
     ensures kept { OnErr result (notes_of draft.new ≡ notes_of draft.old) }
 {
-    let Some(child) = one_word(words.rest) else {
-        return Err(ScriptLineError::Fault(misfit(3, words.rest, 1)));
-    };
-    let Some(time) = time_in(words.time) else {
-        return Err(ScriptLineError::Fault(at_word(1, ScriptCause::Number)));
-    };
-    let Some(child) = tree.device_named(child) else {
+    let Some(child) = tree.device_named(line.text(3)) else {
         return Err(ScriptLineError::Fault(at_word(3, ScriptCause::Name)));
     };
-    schedule(draft, words.line, time, Event::Unplug { child })
+    schedule(draft, number, line.time(1), Event::Unplug { child })
 }
 
-/// Takes the words after `at T press` or `at T release`.
+/// Takes a key that goes down or comes up.
 fn take_key(
     tree: &Tree<15>,
     draft: &mut ScriptDraft,
+    number: u64,
     press: bool,
-    words: EventWords<'_>,
+    word: KeyWord,
+    line: &FormLine<'_, ScriptVerb>,
 ) -> Result<(), ScriptLineError>
-    ensures gives { GivesNotes (notes_of draft.new) result (key_words tree.now (notes_of draft.old) words.entry.line press words.entry.time.now (words_after (option_copied words.entry.rest))) }
+    ensures gives { GivesNotes (notes_of draft.new) result (key_read (notes_of draft.old) number press (key_said word (values_of line.now)) (key_time word (values_of line.now))
+        (device_named tree.now (text_at (values_of line.now) 3))) }
     ensures kept { OnErr result (notes_of draft.new ≡ notes_of draft.old) }
 {
-    let Some(rest) = words.rest else {
-        return Err(ScriptLineError::Fault(at_word(3, ScriptCause::Word)));
-    };
-    let (device, rest) = first_word(rest);
-    let key = match key_in(rest) {
+    let key = match key_said(word, line) {
         Ok(key) => key,
         Err(fault) => return Err(ScriptLineError::Fault(fault)),
     };
-    let Some(time) = time_in(words.time) else {
+    let Some(time) = key_time(word, line) else {
         return Err(ScriptLineError::Fault(at_word(1, ScriptCause::Number)));
     };
-    let Some(device) = tree.device_named(device) else {
+    let Some(device) = tree.device_named(line.text(3)) else {
         return Err(ScriptLineError::Fault(at_word(3, ScriptCause::Name)));
     };
-    schedule(draft, words.line, time, Event::Key { device, key, press })
+    schedule(draft, number, time, Event::Key { device, key, press })
 }
 
 fn schedule_act(
@@ -347,38 +326,35 @@ fn schedule_act(
     schedule(draft, line, time, Event::Outside { device, act })
 }
 
-/// Takes the words after `at T hold`.
+/// Takes what a device from outside holds from now on.
 fn take_hold(
     tree: &Tree<15>,
     draft: &mut ScriptDraft,
-    words: EventWords<'_>,
+    number: u64,
+    line: &FormLine<'_, ScriptVerb>,
 ) -> Result<(), ScriptLineError>
-    ensures gives { GivesNotes (notes_of draft.new) result (hold_words tree.now (notes_of draft.old) words.entry.line words.entry.time.now (length (words_after (option_copied words.entry.rest))) (two_of (words_after (option_copied words.entry.rest)))) }
+    ensures gives { GivesNotes (notes_of draft.new) result (act_read (notes_of draft.old) number (hold_of (text_at (values_of line.now) 4)) (time_of (text_at (values_of line.now) 1))
+        (device_named tree.now (text_at (values_of line.now) 3))) }
     ensures kept { OnErr result (notes_of draft.new ≡ notes_of draft.old) }
 {
-    let Some((device, addresses)) = two_words(words.rest) else {
-        return Err(ScriptLineError::Fault(misfit(3, words.rest, 2)));
-    };
-    let act = hold_in(addresses);
-    let time = time_in(words.time);
-    schedule_act(draft, words.line, act, time, tree.device_named(device))
+    let act = hold_in(line.text(4));
+    let time = time_in(line.text(1));
+    schedule_act(draft, number, act, time, tree.device_named(line.text(3)))
 }
 
-/// Takes the word after `at T drop`.
+/// Empties the queue of a device from outside.
 fn take_drop(
     tree: &Tree<15>,
     draft: &mut ScriptDraft,
-    words: EventWords<'_>,
+    number: u64,
+    line: &FormLine<'_, ScriptVerb>,
 ) -> Result<(), ScriptLineError>
-    ensures gives { GivesNotes (notes_of draft.new) result (drop_words tree.now (notes_of draft.old) words.entry.line words.entry.time.now (length (words_after (option_copied words.entry.rest))) (one_of (words_after (option_copied words.entry.rest)))) }
+    ensures gives { GivesNotes (notes_of draft.new) result (act_read (notes_of draft.old) number (Some Empty) (Some (time_at (values_of line.now) 1)) (device_named tree.now (text_at (values_of line.now) 3))) }
     ensures kept { OnErr result (notes_of draft.new ≡ notes_of draft.old) }
 {
-    let Some(device) = one_word(words.rest) else {
-        return Err(ScriptLineError::Fault(misfit(3, words.rest, 1)));
-    };
     let act = Some(Act::Empty);
-    let time = time_in(words.time);
-    schedule_act(draft, words.line, act, time, tree.device_named(device))
+    let time = Some(line.time(1));
+    schedule_act(draft, number, act, time, tree.device_named(line.text(3)))
 }
 
 fn pulse_fault(fault: PulsesError) -> AtWord<ScriptCause>
@@ -422,39 +398,19 @@ fn add_pulse(draft: &mut ScriptDraft, waiting: usize, pulse: Stretch) -> Result<
     Ok(())
 }
 
-/// The time and the width of a pulse or pull.
-fn span_in(rest: Option<&[u8]>) -> Result<(u64, u64), AtWord<ScriptCause>>
-    ensures read { result ≡ span_words (length (words_after (option_copied rest.entry))) (two_of (words_after (option_copied rest.entry))) }
-    ensures early { IfOk result (λ span. span.0 ≤ latest_event) }
-{
-    let Some((from, width)) = two_words(rest) else {
-        return Err(misfit(1, rest, 2));
-    };
-    let Some(from) = time_in(from) else {
-        return Err(at_word(1, ScriptCause::Number));
-    };
-    let Some(width) = number_in(width) else {
-        return Err(at_word(2, ScriptCause::Number));
-    };
-    Ok((from, width))
-}
-
-/// Takes the words after `pulse`.
+/// Takes a pulse; a width above 65,535 counts as 65,535.
 fn take_pulse(
     draft: &mut ScriptDraft,
     waiting: usize,
-    rest: Option<&[u8]>,
+    from: u64,
+    width: u64,
 ) -> Result<(), ScriptLineError>
-    ensures gives { GivesNotes (notes_of draft.new) result (pulse_words (notes_of draft.old) waiting (length (words_after (option_copied rest.entry))) (two_of (words_after (option_copied rest.entry)))) }
+    requires early { from ≤ latest_event }
+    ensures gives { GivesNotes (notes_of draft.new) result (pulse_read (notes_of draft.old) waiting (Ok (from, width))) }
     ensures kept { OnErr result (notes_of draft.new ≡ notes_of draft.old) }
 {
-    match span_in(rest) {
-        Ok((from, width)) => {
-            let to = from + width.min(WIDEST_COUNTED);
-            add_pulse(draft, waiting, Stretch { from, to })
-        }
-        Err(fault) => Err(ScriptLineError::Fault(fault)),
-    }
+    let to = from + width.min(WIDEST_COUNTED);
+    add_pulse(draft, waiting, Stretch { from, to })
 }
 
 /// Whether a pull from an instant on would overlap or touch one that ends so.
@@ -467,14 +423,15 @@ pub(crate) fn touches(end: Option<u64>, time: u64) -> bool
     }
 }
 
-fn add_pull(
+/// Takes a pull.
+fn take_pull(
     draft: &mut ScriptDraft,
     waiting: usize,
     from: u64,
     width: u64,
 ) -> Result<(), ScriptLineError>
     requires early { from ≤ latest_event }
-    ensures gives { GivesNotes (notes_of draft.new) result (notes_with_pull (notes_of draft.old) waiting from width) }
+    ensures gives { GivesNotes (notes_of draft.new) result (pull_read (notes_of draft.old) waiting (Ok (from, width))) }
     ensures kept { OnErr result (notes_of draft.new ≡ notes_of draft.old) }
 {
     if width == 0 || width > WIDEST_PULL {
@@ -494,32 +451,11 @@ fn add_pull(
     Ok(())
 }
 
-/// Takes the words after `pull`.
-fn take_pull(
-    draft: &mut ScriptDraft,
-    waiting: usize,
-    rest: Option<&[u8]>,
-) -> Result<(), ScriptLineError>
-    ensures gives { GivesNotes (notes_of draft.new) result (pull_words (notes_of draft.old) waiting (length (words_after (option_copied rest.entry))) (two_of (words_after (option_copied rest.entry)))) }
+/// Takes the end.
+fn take_end(draft: &mut ScriptDraft, time: u64) -> Result<(), ScriptLineError>
+    ensures gives { GivesNotes (notes_of draft.new) result (end_read (notes_of draft.old) (Some time)) }
     ensures kept { OnErr result (notes_of draft.new ≡ notes_of draft.old) }
 {
-    match span_in(rest) {
-        Ok((from, width)) => add_pull(draft, waiting, from, width),
-        Err(fault) => Err(ScriptLineError::Fault(fault)),
-    }
-}
-
-/// Takes the word after `end`.
-fn take_end(draft: &mut ScriptDraft, rest: Option<&[u8]>) -> Result<(), ScriptLineError>
-    ensures gives { GivesNotes (notes_of draft.new) result (end_words (notes_of draft.old) (length (words_after (option_copied rest.entry))) (one_of (words_after (option_copied rest.entry)))) }
-    ensures kept { OnErr result (notes_of draft.new ≡ notes_of draft.old) }
-{
-    let Some(time) = one_word(rest) else {
-        return Err(ScriptLineError::Fault(misfit(1, rest, 1)));
-    };
-    let Some(time) = time_in(time) else {
-        return Err(ScriptLineError::Fault(at_word(1, ScriptCause::Number)));
-    };
     if draft.end.is_some() {
         return Err(ScriptLineError::Fault(at_word(0, ScriptCause::End)));
     }
@@ -534,80 +470,78 @@ fn take_end(draft: &mut ScriptDraft, rest: Option<&[u8]>) -> Result<(), ScriptLi
     Ok(())
 }
 
-/// Takes the words after `at T VERB`, but for `send`.
+/// Takes what a line of a form says.
+fn take_form(
+    tree: &Tree<15>,
+    draft: &mut ScriptDraft,
+    waiting: usize,
+    number: u64,
+    line: &FormLine<'_, ScriptVerb>,
+) -> Result<(), ScriptLineError>
+    ensures gives { Gives (notes_of draft.new) result (IsSaid tree.now (notes_of draft.old) waiting number line.now.verb (values_of line.now)) }
+    ensures kept { OnErr result (notes_of draft.new ≡ notes_of draft.old) }
+{
+    match line.verb {
+        ScriptVerb::Press(word) => take_key(tree, draft, number, true, word, line),
+        ScriptVerb::Release(word) => take_key(tree, draft, number, false, word, line),
+        ScriptVerb::Plug => take_plug(tree, draft, number, line),
+        ScriptVerb::Unplug => take_unplug(tree, draft, number, line),
+        ScriptVerb::Send => take_send(tree, draft, number, line),
+        ScriptVerb::Hold => take_hold(tree, draft, number, line),
+        ScriptVerb::Drop => take_drop(tree, draft, number, line),
+        ScriptVerb::Pulse => take_pulse(draft, waiting, line.time(1), line.number(2)),
+        ScriptVerb::Pull => take_pull(draft, waiting, line.time(1), line.number(2)),
+        ScriptVerb::Pin => take_level(draft, waiting, line.time(1), line.level(2)),
+        ScriptVerb::End => take_end(draft, line.time(1)),
+    }
+}
+
+/// The form of a line, and its values.
+#[tactic(auto, unfolding(crate::specs::Rows::line_said))]
+fn line_said(line: &[u8]) -> Result<FormLine<'_, ScriptVerb>, AtWord<LineCause>>
+    ensures { said result ≡ line_said (words_of line.now) }
+{
+    read_line(SCRIPT, line)
+}
+
+fn script_fault(fault: AtWord<LineCause>) -> AtWord<ScriptCause>
+    ensures { result ≡ fault_as fault }
+{
+    match fault.cause {
+        LineCause::Word => at_word(fault.word, ScriptCause::Word),
+        LineCause::Number => at_word(fault.word, ScriptCause::Number),
+    }
+}
+
+/// Takes what the words of a line say by the table of forms.
+fn take_said(
+    tree: &Tree<15>,
+    draft: &mut ScriptDraft,
+    waiting: usize,
+    number: u64,
+    line: &[u8],
+) -> Result<(), ScriptLineError>
+    ensures gives { Gives (notes_of draft.new) result (IsSaidRead tree.now (notes_of draft.old) waiting number (line_said (words_of line.now))) }
+    ensures kept { OnErr result (notes_of draft.new ≡ notes_of draft.old) }
+{
+    match line_said(line) {
+        Ok(line) => take_form(tree, draft, waiting, number, &line),
+        Err(fault) => Err(ScriptLineError::Fault(script_fault(fault))),
+    }
+}
+
+/// Takes the words of a line.
 fn take_words(
     tree: &Tree<15>,
     draft: &mut ScriptDraft,
-    verb: &[u8],
-    words: EventWords<'_>,
-) -> Result<(), ScriptLineError>
-    ensures gives { GivesNotes (notes_of draft.new) result (event_words tree.now (notes_of draft.old) words.entry.line words.entry.time.now verb.now (words_after (option_copied words.entry.rest))) }
-    ensures kept { OnErr result (notes_of draft.new ≡ notes_of draft.old) }
-{
-    if verb == b"plug".as_slice() {
-        take_plug(tree, draft, words)
-    } else if verb == b"unplug".as_slice() {
-        take_unplug(tree, draft, words)
-    } else if verb == b"press".as_slice() {
-        take_key(tree, draft, true, words)
-    } else if verb == b"release".as_slice() {
-        take_key(tree, draft, false, words)
-    } else if verb == b"hold".as_slice() {
-        take_hold(tree, draft, words)
-    } else if verb == b"drop".as_slice() {
-        take_drop(tree, draft, words)
-    } else {
-        Err(ScriptLineError::Fault(at_word(2, ScriptCause::Word)))
-    }
-}
-
-/// Takes the words after `at`.
-fn take_event(
-    tree: &Tree<15>,
-    draft: &mut ScriptDraft,
-    line: u64,
-    rest: Option<&[u8]>,
-) -> Result<(), ScriptLineError>
-    ensures gives { Gives (notes_of draft.new) result (IsEventRead tree.now (notes_of draft.old) line (words_after (option_copied rest.entry))) }
-    ensures kept { OnErr result (notes_of draft.new ≡ notes_of draft.old) }
-{
-    let Some(rest) = rest else {
-        return Err(ScriptLineError::Fault(at_word(1, ScriptCause::Word)));
-    };
-    let (time, rest) = first_word(rest);
-    let Some(rest) = rest else {
-        return Err(ScriptLineError::Fault(at_word(2, ScriptCause::Word)));
-    };
-    let (verb, rest) = first_word(rest);
-    let words = EventWords { line, time, rest };
-    if verb == b"send".as_slice() {
-        take_send(tree, draft, words)
-    } else {
-        take_words(tree, draft, verb, words)
-    }
-}
-
-/// Takes the words of a line that is no event.
-fn take_other(
-    draft: &mut ScriptDraft,
     waiting: usize,
-    verb: &[u8],
-    rest: Option<&[u8]>,
+    number: u64,
+    line: &[u8],
 ) -> Result<(), ScriptLineError>
-    ensures gives { GivesNotes (notes_of draft.new) result (other_words (notes_of draft.old) waiting verb.now (words_after (option_copied rest.entry))) }
+    ensures gives { Gives (notes_of draft.new) result (IsWordsRead tree.now (notes_of draft.old) waiting number (words_of line.now)) }
     ensures kept { OnErr result (notes_of draft.new ≡ notes_of draft.old) }
 {
-    if verb == b"pulse".as_slice() {
-        take_pulse(draft, waiting, rest)
-    } else if verb == b"pull".as_slice() {
-        take_pull(draft, waiting, rest)
-    } else if verb == b"pin".as_slice() {
-        take_pin(draft, waiting, rest)
-    } else if verb == b"end".as_slice() {
-        take_end(draft, rest)
-    } else {
-        Err(ScriptLineError::Fault(at_word(0, ScriptCause::Word)))
-    }
+    take_said(tree, draft, waiting, number, line)
 }
 
 /// Takes a line, the one of this number. So many pulses and pulls of the lines before it wait to be taken into a round: all
@@ -625,12 +559,7 @@ pub fn take_line(
     if is_skipped(line) {
         return Ok(());
     }
-    let (verb, rest) = first_word(line);
-    if verb == b"at".as_slice() {
-        take_event(tree, draft, number, rest)
-    } else {
-        take_other(draft, waiting, verb, rest)
-    }
+    take_words(tree, draft, waiting, number, line)
 }
 
 /// The error of a line that is not taken.

@@ -3,19 +3,23 @@ ghost use Rattle.std.specs.Prelude.{◌≡◌, ◌+◌, ◌≤◌, IfOk, OnErr};
 ghost use Rattle.std.specs.Option.{option_copied};
 ghost use Rattle.text_core.specs.Words.{text_of, words_of, words_after};
 ghost use Rattle.message_hex.specs.Bytes.{frame_in};
+ghost use Rattle.text_forms.specs.Forms.{values_of};
 ghost use Rattle.room_script.specs.Header.{digits_text, header_names};
-ghost use Rattle.room_script.specs.Script.{notes_of, send_read, frame_event, GivesNotes, Gives, IsSendRead};
+ghost use Rattle.room_script.specs.Rows.{IsSendSaid};
+ghost use Rattle.room_script.specs.Script.{notes_of, send_read, frame_event, GivesNotes, Gives};
 ghost use Rattle.room_script.specs.Sending.{attempts_of, frame_read, handed_as, handed_in, hex_read, with_attempts, IsFrameOf, IsFrameRead};
 
 use crate::header::{has_names, header_names, text_with_digits};
-use crate::script::{EventWords, ScriptCause, ScriptDraft, ScriptLineError, schedule, time_in};
+use crate::script::{ScriptCause, ScriptDraft, ScriptLineError, schedule, time_in};
 use device_core::Ticket;
 use edid_tree::Tree;
 use line_frames::Frame;
 use message_text::{AssembleError, assemble, frame_word, frames_are_whole};
 use room_event::{Event, HeaderNames};
+use room_lines::ScriptVerb;
 use std::alloc::{AllocError, Global};
 use text_core::{AtWord, at_word, first_word, number_in};
+use text_forms::FormLine;
 
 /// What a line hands in after the name: the words of the frame, the first of which has this number in the line, and how many
 /// attempts the frame has in all, where the line says so. None is a number that is none.
@@ -216,21 +220,18 @@ fn schedule_frame(
     }
 }
 
-/// Takes the words after `at T send`: a name, perhaps how many attempts the frame has in all, and the frame, as a text, spaces and all,
-/// in whose header names may stand, or in hex.
+/// Takes a frame that is handed in after a name, perhaps with how many attempts it has in all: as a text, spaces and all, in whose
+/// header names may stand, or in hex.
 pub(crate) fn take_send(
     tree: &Tree<15>,
     draft: &mut ScriptDraft,
-    words: EventWords<'_>,
+    number: u64,
+    line: &FormLine<'_, ScriptVerb>,
 ) -> Result<(), ScriptLineError>
-    ensures gives { Gives (notes_of draft.new) result (IsSendRead tree.now (notes_of draft.old) words.entry.line words.entry.time.now (words_after (option_copied words.entry.rest))) }
+    ensures gives { Gives (notes_of draft.new) result (IsSendSaid tree.now (notes_of draft.old) number (values_of line.now)) }
     ensures kept { OnErr result (notes_of draft.new ≡ notes_of draft.old) }
 {
-    let Some(rest) = words.rest else {
-        return Err(ScriptLineError::Fault(at_word(3, ScriptCause::Word)));
-    };
-    let (name, rest) = first_word(rest);
-    let handed = handed_in(rest);
+    let handed = handed_in(line.rest(4));
     let Some(frame) = handed.frame else {
         return Err(ScriptLineError::Fault(at_word(handed.at, ScriptCause::Word)));
     };
@@ -238,10 +239,10 @@ pub(crate) fn take_send(
     let read = frame_said(draft.alloc, handed.at, frame)?;
     let said = Said {
         at: handed.at,
-        time: time_in(words.time),
+        time: time_in(line.text(1)),
         attempts: handed.attempts,
-        device: tree.device_named(name),
+        device: tree.device_named(line.text(3)),
         names: header_names(tree, header),
     };
-    schedule_frame(draft, words.line, said, read)
+    schedule_frame(draft, number, said, read)
 }

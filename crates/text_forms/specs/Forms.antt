@@ -178,6 +178,11 @@ abbrev pub number_of_meaning : Meaning → ℕ
 number_of_meaning (Number n) = n
 number_of_meaning _ = 0
 
+-- (no word says a later time)
+abbrev pub time_of_meaning : Meaning → ℕ
+time_of_meaning (Number n) = min n latest
+time_of_meaning _ = 0
+
 abbrev pub port_of_meaning : Meaning → ℕ
 port_of_meaning (PortOf n) = n
 port_of_meaning _ = 0
@@ -187,6 +192,10 @@ abbrev pub ports_of_meaning : Meaning → ℕ
 ports_of_meaning (PortsOf n) = min n most_ports
 ports_of_meaning _ = 0
 
+abbrev pub level_of_meaning : Meaning → Bool
+level_of_meaning (Level is) = is
+level_of_meaning _ = false
+
 abbrev pub kind_of_meaning : Meaning → Kind
 kind_of_meaning (KindOf kind) = kind
 kind_of_meaning _ = Tv
@@ -194,6 +203,10 @@ kind_of_meaning _ = Tv
 abbrev pub text_of_meaning : Meaning → List ℕ
 text_of_meaning (Text word) = word
 text_of_meaning _ = []
+
+abbrev pub words_of_meaning : Meaning → List (List ℕ)
+words_of_meaning (Words words) = words
+words_of_meaning _ = []
 
 -- ---- values by their places
 
@@ -211,3 +224,12 @@ kind_at values place = kind_of_meaning (get_or values place Itself)
 
 abbrev pub number_at : List Meaning → ℕ → ℕ
 number_at values place = number_of_meaning (get_or values place Itself)
+
+abbrev pub time_at : List Meaning → ℕ → ℕ
+time_at values place = time_of_meaning (get_or values place Itself)
+
+abbrev pub level_at : List Meaning → ℕ → Bool
+level_at values place = level_of_meaning (get_or values place Itself)
+
+abbrev pub words_at : List Meaning → ℕ → List (List ℕ)
+words_at values place = words_of_meaning (get_or values place Itself)

@@ -2,11 +2,11 @@
 ghost use Rattle.std.specs.Prelude.{◌≡◌, ◌+◌, ◌≤◌, get_or, map, length};
 ghost use Rattle.std.specs.Option.{option_copied, option_map};
 ghost use Rattle.text_core.specs.Words.{words_of, words_after};
-ghost use Rattle.text_forms.specs.Limits.{most_ports};
-ghost use Rattle.text_forms.specs.Forms.{Itself, fault_in, line_of, meanings_of, meant, kind_at, number_at, port_at, ports_at, read_by, read_of, row_of, said, text_at, value_or, values_of};
+ghost use Rattle.text_forms.specs.Limits.{latest, most_ports};
+ghost use Rattle.text_forms.specs.Forms.{Itself, fault_in, line_of, meanings_of, meant, kind_at, level_at, number_at, port_at, ports_at, read_by, read_of, row_of, said, text_at, time_at, value_or, values_of, words_at};
 
 use crate::form::{LineCause, Slot, is_whole, most_fitting};
-use crate::limits::MOST_PORTS;
+use crate::limits::{LATEST, MOST_PORTS};
 use crate::value::{Value, value_in};
 use text_core::{AtWord, Kind, at_word, first_word};
 
@@ -151,6 +151,17 @@ impl<'t, V> FormLine<'t, V> {
         }
     }
 
+    /// The time at a place; 0 where none is.
+    pub fn time(&self, place: usize) -> u64
+        ensures value { result ≡ time_at (values_of self.now) place }
+        ensures early { result ≤ latest }
+    {
+        match value_at(self.form, Some(self.text), place) {
+            Value::Number(time) => time.min(LATEST),
+            _ => 0,
+        }
+    }
+
     /// The port at a place; 0 where none is.
     pub fn port(&self, place: usize) -> u8
         ensures { result ≡ port_at (values_of self.now) place }
@@ -172,6 +183,16 @@ impl<'t, V> FormLine<'t, V> {
         }
     }
 
+    /// The level at a place, or the switch; low or off where none is.
+    pub fn level(&self, place: usize) -> bool
+        ensures { result ≡ level_at (values_of self.now) place }
+    {
+        match value_at(self.form, Some(self.text), place) {
+            Value::Level(level) => level,
+            _ => false,
+        }
+    }
+
     /// The kind at a place; a television where none is.
     pub fn kind(&self, place: usize) -> Kind
         ensures { result ≡ kind_at (values_of self.now) place }
@@ -189,6 +210,16 @@ impl<'t, V> FormLine<'t, V> {
         match value_at(self.form, Some(self.text), place) {
             Value::Text(text) => text,
             _ => &[],
+        }
+    }
+
+    /// All that stands from a place on; None where a form has no such place.
+    pub fn rest(&self, place: usize) -> Option<&'t [u8]>
+        ensures { words_after (option_copied result) ≡ words_at (values_of self.now) place }
+    {
+        match value_at(self.form, Some(self.text), place) {
+            Value::Rest(text) => Some(text),
+            _ => None,
         }
     }
 }

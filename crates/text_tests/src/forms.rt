@@ -1,7 +1,8 @@
 //! Lines that are read by a table with each slot: words that stand for themselves, values at their limits and past them, and
 //! which fault comes first.
 use crate::cases::case_holds;
-use room_lines::{TOPOLOGY, TopologyVerb};
+use device_features::KeyWord;
+use room_lines::{SCRIPT, ScriptVerb, TOPOLOGY, TopologyVerb};
 use std::process::Abort;
 use text_core::{AtWord, Kind};
 use text_forms::{FormLine, LineCause, Slot, Value, fitting, read_line};
@@ -152,6 +153,8 @@ fn line_of<'t>(rt: &impl Abort, line: &'t str) -> FormLine<'t, char> {
 #[test]
 fn values_stand_at_their_places(rt: HostRuntime) {
     assert!(rt; line_of(&rt, "at 1000000000000 stop").number(1) == 1_000_000_000_000);
+    assert!(rt; line_of(&rt, "at 1000000000000 stop").time(1) == 1_000_000_000_000);
+    assert!(rt; line_of(&rt, "at 5 stop").time(0) == 0);
     assert!(rt; line_of(&rt, "count 18446744073709551616").number(1) == u64::MAX);
     assert!(rt; line_of(&rt, "at 5 stop").number(2) == 0);
     assert!(rt; line_of(&rt, "at 5 stop").number(9) == 0);
@@ -167,6 +170,14 @@ fn values_stand_at_their_places(rt: HostRuntime) {
     assert!(rt; matches!(line_of(&rt, "pin 5 0").value(2), Value::Level(false)));
     assert!(rt; matches!(line_of(&rt, "audio on").value(1), Value::Level(true)));
     assert!(rt; matches!(line_of(&rt, "audio off").value(0), Value::Itself));
+    assert!(rt; line_of(&rt, "pin 5 1").level(2));
+    assert!(rt; !line_of(&rt, "pin 5 0").level(2));
+    assert!(rt; !line_of(&rt, "pin 5 1").level(1));
+    assert!(rt; line_of(&rt, "send p1 4>0").rest(1).is_none());
+    let Some(words) = line_of(&rt, "send p1 4>0 give-osd-name").rest(2) else {
+        panic!(rt; "the words of a frame");
+    };
+    assert!(rt; words == b"4>0 give-osd-name".as_slice());
     let Value::Rest(frame) = line_of(&rt, "send p1 4>0 give-osd-name").value(2) else {
         panic!(rt; "the words of a frame");
     };
@@ -196,4 +207,62 @@ fn topologies_have_three_forms(rt: HostRuntime) {
     assert!(rt; topology_line("plug p1 tv 1") == Some(TopologyVerb::Plug));
     assert!(rt; topology_line("edid 00ff") == Some(TopologyVerb::Edid));
     assert!(rt; topology_line("script").is_none());
+}
+
+/// Lines of a script, and what each stands for.
+const SAID: &[(&str, ScriptVerb)] = &[
+    ("at 5 press p1 play", ScriptVerb::Press(KeyWord::Play)),
+    ("at 5 release p1 port 2", ScriptVerb::Release(KeyWord::Port)),
+    ("at 5 press tv audio on", ScriptVerb::Press(KeyWord::Audio)),
+    (
+        "at 5 press tv remote 4 select",
+        ScriptVerb::Press(KeyWord::Remote),
+    ),
+    ("at 5 plug p1 tv 1", ScriptVerb::Plug),
+    ("at 5 unplug p1", ScriptVerb::Unplug),
+    ("at 5 send p1 4>0 give-osd-name", ScriptVerb::Send),
+    ("at 5 send p1 attempts 2 hex 4004", ScriptVerb::Send),
+    ("at 5 hold l1 1+4+5+8", ScriptVerb::Hold),
+    ("at 5 drop l1", ScriptVerb::Drop),
+    ("pulse 5 3700", ScriptVerb::Pulse),
+    ("pull 5 10", ScriptVerb::Pull),
+    ("pin 5 0", ScriptVerb::Pin),
+    ("end 9", ScriptVerb::End),
+];
+
+/// Lines that have no form of a script, or no value at a place: the cause, and the word.
+const UNSAID: &[(&str, LineCause, usize)] = &[
+    ("at", LineCause::Word, 1),
+    ("at 5", LineCause::Word, 2),
+    ("at 5 press p1", LineCause::Word, 4),
+    ("at 5 press p1 jump", LineCause::Word, 4),
+    ("at 5 press p1 play now", LineCause::Word, 5),
+    ("at 5 press tv remote 4", LineCause::Word, 6),
+    ("at x press p1 play", LineCause::Number, 1),
+    // A value of a key comes before the time.
+    ("at x press p1 port y", LineCause::Number, 5),
+    ("at x press tv audio maybe", LineCause::Word, 5),
+    ("at 5 send p1", LineCause::Word, 4),
+    ("at 5 hold l1", LineCause::Word, 4),
+    ("pin 5 2", LineCause::Number, 2),
+    ("end", LineCause::Word, 1),
+    ("ends 5", LineCause::Word, 0),
+];
+
+#[test]
+fn scripts_have_their_forms(rt: HostRuntime) {
+    for (line, verb) in SAID {
+        let is_so = match read_line(SCRIPT, line.as_bytes()) {
+            Ok(found) => found.verb == *verb,
+            Err(_) => false,
+        };
+        case_holds(&rt, is_so, line);
+    }
+    for (line, cause, word) in UNSAID {
+        let is_so = match read_line(SCRIPT, line.as_bytes()) {
+            Ok(_) => false,
+            Err(fault) => fault.cause == *cause && fault.word == *word,
+        };
+        case_holds(&rt, is_so, line);
+    }
 }
