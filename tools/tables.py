@@ -163,10 +163,14 @@ def rows_of_constants(tree):
             yield from rows_of('%s/%s.rt' % (crate, module), found[1].split('\n'), source.count('\n', 0, found.start(1)) + 1)
 
 
+# The files of edid_tables that have the tables of data blocks.
+BLOCKS = ('audio', 'cta', 'dolby', 'forum', 'hdmi')
+
+
 def rows_of_fields(tree):
     """the names in tables of the fields of data blocks, which a definition cites as they are, each once: byte, highest bit, lowest bit, name"""
     names = {'reserved'}
-    for path in files(tree, 'crates/edid_blocks/src/*.rt'):
+    for path in (it for name in BLOCKS for it in files(tree, 'crates/edid_tables/src/%s.rt' % name)):
         for at, line in enumerate(read(path).split('\n'), 1):
             found = re.match(r' *\d+ \d+ \d+ "([^"]+)" \[', line)
             if found and found[1] not in names:

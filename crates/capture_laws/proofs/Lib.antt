@@ -1,3 +1,16 @@
 pub mod Texts
 pub mod ReadBack
 pub mod Formats
+pub mod Levels
+pub mod Words
+pub mod Changes
+pub mod Head
+pub mod Whole
+pub mod Reading
+pub mod ReadHead
+pub mod Calm
+pub mod Stays
+pub mod Turns
+pub mod Names
+pub mod Captures
+pub mod Dumps

@@ -6,8 +6,8 @@ use Rattle.std.specs.List.{flat_map}
 use Rattle.text_core.specs.Adds.{Adds, Tally}
 use Rattle.text_core.proofs.Adding.{then}
 use Rattle.edid_base.specs.declared.timing.Timing.{Timing as TimingValue}
-use Rattle.edid_base_tables.specs.declared.sections.Section.{Section}
-use Rattle.edid_base_tables.specs.declared.sections.Section.TheVariants.{Checksum, Cta}
+use Rattle.edid_tables.specs.declared.sections.Section.{Section}
+use Rattle.edid_tables.specs.declared.sections.Section.TheVariants.{Checksum, Cta}
 use Rattle.edid_cta.specs.Block.{block_bytes}
 use Rattle.edid_cta.specs.Ext.{ext_bytes}
 use Rattle.edid_cta.specs.Whole.{bare_bytes, cta_bytes}
@@ -18,8 +18,8 @@ use Rattle.edid_cta.specs.declared.raw.Ext.{Ext}
 use Rattle.edid_cta.specs.declared.raw.Ext.TheVariants as exts
 use Rattle.edid_cta.specs.declared.raw.RawExt.{RawExt}
 use Rattle.edid_fields.specs.Forms.{Part}
-use Rattle.edid_parts.specs.Frames.{frame_parts}
-use Rattle.edid_parts.specs.declared.frames.Frame.TheVariants.{Head}
+use Rattle.edid_tables.specs.Frames.{frame_parts}
+use Rattle.edid_tables.specs.declared.frames.Frame.TheVariants.{Head}
 use Rattle.conversion_fields.specs.Blocks.{block_part, block_said, blocks_parts, body_of, body_parts, front_end, front_parts, head_byte}
 use Rattle.conversion_fields.specs.Objects.{field_object, objects_text, part_object}
 use Rattle.conversion_fields.specs.Parts.{PartSaid, part_text, parts_text}

@@ -7,9 +7,9 @@ use Rattle.std.specs.List.{flat_map}
 use Rattle.edid_base.specs.Check.{check_of}
 use Rattle.edid_base.specs.Timing.{timing_bytes}
 use Rattle.edid_base.specs.declared.timing.Timing.{Timing as TimingValue}
-use Rattle.edid_base_tables.specs.Sections.{section_parts}
-use Rattle.edid_base_tables.specs.declared.sections.Section.{Section}
-use Rattle.edid_base_tables.specs.declared.sections.Section.TheVariants.{Checksum, Cta, Timing}
+use Rattle.edid_tables.specs.Sections.{section_parts}
+use Rattle.edid_tables.specs.declared.sections.Section.{Section}
+use Rattle.edid_tables.specs.declared.sections.Section.TheVariants.{Checksum, Cta, Timing}
 use Rattle.edid_cta.specs.Block.{block_bytes}
 use Rattle.edid_cta.specs.Cta.{bare_front, cta_front}
 use Rattle.edid_cta.specs.Ext.{ext_bytes}
@@ -23,8 +23,8 @@ use Rattle.edid_cta.specs.declared.raw.RawExt.{RawExt}
 use Rattle.edid_fields.specs.Fields.{fields_of}
 use Rattle.edid_fields.specs.Forms.{Field, Part}
 use Rattle.edid_fields.specs.Tiling.{all_bits, count, covered, left_bits}
-use Rattle.edid_parts.specs.Frames.{frame_parts}
-use Rattle.edid_parts.specs.declared.frames.Frame.TheVariants.{Head}
+use Rattle.edid_tables.specs.Frames.{frame_parts}
+use Rattle.edid_tables.specs.declared.frames.Frame.TheVariants.{Head}
 use Rattle.conversion_fields.specs.Blocks.{block_part, block_said, blocks_parts, body_of, body_parts, front_end, front_parts, head_byte}
 use Rattle.conversion_fields.specs.Parts.{PartSaid, Tiled, bits_in, bytes_in}
 use Rattle.conversion_fields.specs.Said.{Said, all_said, bits_of, bytes_said, end_in, front_said, left_said, said_bits, said_of}

@@ -5,11 +5,11 @@ use Rattle.edid_cta.specs.declared.block.DataBlock.{DataBlock}
 use Rattle.edid_fields.specs.Fields.{chosen, end_of}
 use Rattle.edid_fields.specs.Forms.{Part}
 use Rattle.edid_fields.specs.Words as words
-use Rattle.edid_blocks.specs.Layouts.{layout_of}
-use Rattle.edid_blocks.specs.Tables.{parts_of}
-use Rattle.edid_parts.specs.Blocks.{block_name, front_frame}
-use Rattle.edid_parts.specs.Frames.{frame_parts}
-use Rattle.edid_parts.specs.declared.frames.Frame.TheVariants.{Head, Payload}
+use Rattle.edid_tables.specs.Layouts.{layout_of}
+use Rattle.edid_tables.specs.Tables.{parts_of}
+use Rattle.edid_tables.specs.Names.{block_name, front_frame}
+use Rattle.edid_tables.specs.Frames.{frame_parts}
+use Rattle.edid_tables.specs.declared.frames.Frame.TheVariants.{Head, Payload}
 use Rattle.conversion_fields.specs.Parts.{PartSaid}
 use Rattle.conversion_fields.specs.Said.{Said, all_said, end_in, front_said}
 

@@ -6,11 +6,11 @@ use Rattle.edid_base.specs.Base.{base_bytes}
 use Rattle.edid_base.specs.Timing.{timing_bytes}
 use Rattle.edid_base.specs.declared.base.Base.{Base}
 use Rattle.edid_base.specs.declared.timing.Timing.{Timing as TimingValue}
-use Rattle.edid_base_tables.specs.Cuts.{descriptor_section}
-use Rattle.edid_base_tables.specs.Sections.{section_name, section_parts}
-use Rattle.edid_base_tables.specs.declared.cuts.TheConstants.{BASE}
-use Rattle.edid_base_tables.specs.declared.sections.Section.{Section}
-use Rattle.edid_base_tables.specs.declared.sections.Section.TheVariants.{Checksum, Cta, Timing}
+use Rattle.edid_tables.specs.Cuts.{descriptor_section}
+use Rattle.edid_tables.specs.Sections.{section_name, section_parts}
+use Rattle.edid_tables.specs.declared.cuts.TheConstants.{BASE}
+use Rattle.edid_tables.specs.declared.sections.Section.{Section}
+use Rattle.edid_tables.specs.declared.sections.Section.TheVariants.{Checksum, Cta, Timing}
 use Rattle.edid_cta.specs.Block.{block_bytes}
 use Rattle.edid_cta.specs.Ext.{ext_bytes}
 use Rattle.edid_cta.specs.Whole.{bare_bytes, cta_bytes}

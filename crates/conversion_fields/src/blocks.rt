@@ -4,18 +4,18 @@ ghost use Rattle.text_core.specs.Adds.{Adds};
 ghost use Rattle.edid_cta.specs.Block.{block_bytes};
 ghost use Rattle.edid_fields.specs.Fields.{end_of, is_table};
 ghost use Rattle.edid_fields.specs.Forms.{table_in_code};
-ghost use Rattle.edid_parts.specs.Blocks.{block_name};
-ghost use Rattle.edid_parts.specs.Frames.{frame_parts};
+ghost use Rattle.edid_tables.specs.Names.{block_name};
+ghost use Rattle.edid_tables.specs.Frames.{frame_parts};
 ghost use Rattle.conversion_fields.specs.Blocks.{block_part, block_said, blocks_parts, body_of, body_parts, cut_of, first_cut, front_end, front_parts, head_byte, left_of};
 ghost use Rattle.conversion_fields.specs.Objects.{objects_text, part_object};
 ghost use Rattle.conversion_fields.specs.Parts.{part_text, parts_text};
 ghost use Rattle.conversion_fields.specs.Said.{all_said, end_in, front_said};
 
 use crate::objects::{Lengths, add_bytes, add_fields, add_part};
-use edid_blocks::{layout_of, parts_of};
+use edid_tables::{layout_of, parts_of};
 use edid_cta::DataBlock;
 use edid_fields::{Part, Place, cut_of, left_of, walk};
-use edid_parts::{Frame, block_name, frame_parts, front_frame};
+use edid_tables::{Frame, block_name, frame_parts, front_frame};
 use text_core::{Counted, Sink};
 
 /// The bytes after some.

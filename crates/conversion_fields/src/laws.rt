@@ -2,7 +2,7 @@
 ghost use Rattle.std.specs.Prelude.{◌≡◌, ℕ, ◌*◌, length, flat_map};
 ghost use Rattle.edid_base.specs.Base.{base_bytes};
 ghost use Rattle.edid_base.specs.Timing.{timing_bytes};
-ghost use Rattle.edid_base_tables.specs.Sections.{section_parts};
+ghost use Rattle.edid_tables.specs.Sections.{section_parts};
 ghost use Rattle.edid_cta.specs.Block.{block_bytes};
 ghost use Rattle.edid_cta.specs.Ext.{ext_bytes};
 ghost use Rattle.conversion_fields.specs.Blocks.{block_said, blocks_parts};
@@ -14,10 +14,10 @@ ghost use Rattle.edid_fields.specs.Tiling.{count};
 use crate::blocks::{after, body_of, body_parts, front_parts, head_of};
 use crate::whole::{CHECKSUM, CTA_FRONT, before, section_of};
 use edid_base::{Base, Timing, write_base};
-use edid_base_tables::{BASE, Section, section_parts};
+use edid_tables::{BASE, Section, section_parts};
 use edid_cta::{DataBlock, Ext, write_ext};
 use edid_fields::every_bit_stands_once;
-use edid_parts::{Frame, frame_parts};
+use edid_tables::{Frame, frame_parts};
 
 /// Each bit of a data block, from wherever it begins, stands in one field, in order.
 pub fn block_bits_stand_once(block: &DataBlock)

@@ -2,7 +2,7 @@
 ghost use Rattle.std.specs.Prelude.{◌≡◌, ◌≤◌, ◌+◌, ◌*◌, length, drop, take, IsTrue};
 ghost use Rattle.text_core.specs.Adds.{Adds};
 ghost use Rattle.edid_cta.specs.Ext.{ext_bytes};
-ghost use Rattle.edid_base_tables.specs.Sections.{section_name};
+ghost use Rattle.edid_tables.specs.Sections.{section_name};
 ghost use Rattle.conversion_fields.specs.Objects.{part_object};
 ghost use Rattle.conversion_fields.specs.Parts.{part_text, parts_text};
 ghost use Rattle.conversion_fields.specs.Whole.{are_short, base_parts, content_parts, cut_parts, edid_text, ext_front, ext_parts, exts_text, plain_parts, section_cut, section_left, section_of, section_part, timings_parts};
@@ -10,7 +10,7 @@ ghost use Rattle.conversion_fields.specs.Whole.{are_short, base_parts, content_p
 use crate::blocks::{add_all, add_blocks, after, end_of};
 use crate::objects::{Lengths, add_bytes, add_part};
 use edid_base::{Base, Timing, write_base};
-use edid_base_tables::{BASE, Section, descriptor_section, section_name, section_parts};
+use edid_tables::{BASE, Section, descriptor_section, section_name, section_parts};
 use edid_cta::{Cta, Ext, write_ext};
 use edid_fields::{cut_of, left_of};
 use text_core::{Counted, Sink};

@@ -21,7 +21,7 @@ use Rattle.meaning_cta.specs.Flags.{flag_meanings}
 use Rattle.meaning_cta.specs.Hdmi.{hdmi_meanings}
 use Rattle.meaning_extended.specs.Blocks.{extended_meanings, vendor_meanings}
 use Rattle.rules_values.specs.VideoCodes.{video_codes}
-use Rattle.meaning_descriptors.specs.Descriptors.{descriptor_meanings}
+use Rattle.meaning_base.specs.Descriptors.{descriptor_meanings}
 use Rattle.meaning_displayid.specs.Sections.{displayid_lines}
 use Rattle.meaning_base.specs.Inputs.{input_meanings, feature_meanings}
 use Rattle.meaning_base.specs.Figures.{made_text, size_text, gamma_text, chroma_text, standard_text}

@@ -13,7 +13,7 @@ use meaning_base::{
     append_made, append_range, append_raw, append_size, append_standard,
 };
 use meaning_cta::{append_audio, append_flags, append_hdmi, append_speakers};
-use meaning_descriptors::append_descriptor;
+use meaning_base::append_descriptor;
 use meaning_displayid::append_displayid;
 use meaning_extended::{append_extended, append_vendor};
 use meaning_words::{Page, append_timing, append_video, byte_at};

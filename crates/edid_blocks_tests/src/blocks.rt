@@ -1,5 +1,5 @@
 //! Reserved bits and lengths.
-use edid_blocks::{cut_of, has_reserved, left_of};
+use edid_tables::{cut_of, has_reserved, left_of};
 use edid_cta::{DataBlock, Ext, read_ext};
 use std::process::Abort;
 

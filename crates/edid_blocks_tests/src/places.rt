@@ -1,6 +1,6 @@
 //! Where fields stand, and what they say.
 use crate::blocks::{block_of, parsed};
-use edid_blocks::{body_of, layout_of, parts_of};
+use edid_tables::{body_of, layout_of, parts_of};
 use edid_fields::{walk, word_of};
 use std::process::Abort;
 

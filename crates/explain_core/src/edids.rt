@@ -4,7 +4,7 @@ use edid_as_source::{as_source, counted};
 use edid_base::BaseError;
 use edid_core::{EdidCause, EdidError, read_parts};
 use edid_dump::dump_bytes;
-use edid_dumps::dump_count;
+use edid_dump::dump_count;
 use explain_lists::Draft;
 use explain_marks::InputLine;
 use rules_explain::explain_no_hdmi;

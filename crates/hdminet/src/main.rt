@@ -4,7 +4,7 @@
 
 use program_calls::program::program;
 use program_calls::{ProgramFault, write_fault};
-use program_source::Disk;
+use program_input::Disk;
 use std::env;
 use std::process::ExitCode;
 use text_core::Writes;

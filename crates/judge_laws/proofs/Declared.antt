@@ -27,7 +27,7 @@ use Rattle.room_lines.specs.declared.topology.TopologyVerb.TheVariants.{Device, 
 use Rattle.room_script.specs.Topology.{Plan, after_line, bytes_of, checked_in, device_checked, edid_checked, edid_read, line_read, lines_read, plug_checked, unless_add, unless_plug}
 use Rattle.room_script.specs.declared.topology.TopologyCause.{TopologyCause}
 use Rattle.room_script.specs.declared.topology.TopologyCause.TheVariants as causes
-use Rattle.driven_laws.specs.Dumps.{names_in}
+use Rattle.capture_laws.specs.Dumps.{names_in}
 use Rattle.expect_text.specs.Faults.{declared_in, named_or, names_in as declared_names}
 use Rattle.judge_laws.specs.Said.{NamesAreDeclared}
 

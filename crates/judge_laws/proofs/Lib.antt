@@ -11,3 +11,5 @@ pub mod Said
 pub mod Bare
 pub mod Alike
 pub mod Files
+mod SaidOnce
+mod Having

@@ -37,7 +37,7 @@ use Rattle.room_net.specs.State.{NetState, each_from}
 use Rattle.room_net.specs.Apply.{net_after, applied_unless, changed_at, event_fault, named_frame, after_sent}
 use Rattle.room_net.specs.Step.{after_round, device_after, followed_in, followed_unless, is_among, is_sent, after_fate}
 use Rattle.room_driven.specs.Driven.{names_of}
-use Rattle.driven_laws.proofs.Names.{name-queued, name-reported_by, names-each}
+use Rattle.capture_laws.proofs.Names.{name-queued, name-reported_by, names-each}
 
 two : (t : Bool) (x y : State) (name : List ℕ) → x.name ≡ name → y.name ≡ name → (if t then x else y).name ≡ name
 two true x y name h k = h

@@ -26,7 +26,7 @@ use Rattle.room_run.specs.declared.run.Turn.TheVariants.{Stop, Apply, Round}
 use Rattle.room_run.specs.Happening.{Goes, Happening, HappensBy}
 use Rattle.room_run.specs.Run.{Config, start, turn_at}
 use Rattle.room_driven.specs.Driven.{names_of}
-use Rattle.driven_laws.proofs.Names.{names_started}
+use Rattle.capture_laws.proofs.Names.{names_started}
 use Rattle.expect_text.specs.Bits.{FitsEnding}
 use Rattle.expect_text.specs.Faults.{names_of as declared_of}
 use Rattle.expect_text.specs.Fits.{fits}

@@ -2,3 +2,4 @@ pub mod Told
 pub mod States
 pub mod Said
 pub mod Alike
+pub mod Lines

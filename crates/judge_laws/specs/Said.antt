@@ -3,7 +3,7 @@ use Rattle.std.specs.Prelude.{◌≡◌, ℕ, false, List, [], All, Ok}
 use Rattle.line_wave.specs.Line.{Line}
 use Rattle.line_reading.specs.Readings.{readings_of}
 use Rattle.capture_monitor.specs.Watch.{reading_as}
-use Rattle.driven_laws.specs.Dumps.{names_in}
+use Rattle.capture_laws.specs.Dumps.{names_in}
 use Rattle.room_script.specs.Topology.{Plan, topology_of}
 use Rattle.room_run.specs.Happening.{Happening}
 use Rattle.room_run.specs.Run.{Config}

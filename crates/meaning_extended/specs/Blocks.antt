@@ -7,9 +7,9 @@ use Rattle.edid_layout.specs.ForumBlock.{identifier}
 use Rattle.meaning_extended.specs.Makers.{maker_name, named_meanings, tag_name, labelled_meanings}
 use Rattle.meaning_extended.specs.Forum.{forum_meanings, sink_meanings}
 use Rattle.meaning_extended.specs.Counts.{count_meanings}
-use Rattle.meaning_vendor.specs.Dolby.{dolby_meanings}
-use Rattle.meaning_vendor.specs.Vendors.{plus_meanings, sound_meanings, soft_meanings}
-use Rattle.meaning_vendor.specs.Sync.{sync_meanings}
+use Rattle.meaning_extended.specs.Dolby.{dolby_meanings}
+use Rattle.meaning_extended.specs.Vendors.{plus_meanings, sound_meanings, soft_meanings}
+use Rattle.meaning_extended.specs.Sync.{sync_meanings}
 
 -- video and audio of a maker (CTA-861-G, sections 7.5.7 and 7.5.8)
 abbrev pub vendor_video : List ℕ → List (List ℕ)

@@ -4,3 +4,7 @@ pub mod Makers
 pub mod Forum
 pub mod Counts
 pub mod Blocks
+pub mod Lights
+pub mod Dolby
+pub mod Vendors
+pub mod Sync

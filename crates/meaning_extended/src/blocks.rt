@@ -11,8 +11,8 @@ use crate::makers::{
     AMD, DOLBY, HDR10_PLUS, MICROSOFT, append_labelled, append_named, maker_name, tag_name,
 };
 use crate::videos::{append_map, append_preferences};
+use crate::{append_dolby, append_plus, append_soft, append_sound, append_sync};
 use edid_layout::{HDMI_FORUM, identifier};
-use meaning_vendor::{append_dolby, append_plus, append_soft, append_sound, append_sync};
 use meaning_words::{PAGE, Page, after, append_video, byte_at};
 
 /// The extended tags (CTA-861-G, table 56).

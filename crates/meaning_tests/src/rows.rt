@@ -9,7 +9,7 @@ use meaning_base::{
     append_made, append_range, append_raw, append_size, append_standard,
 };
 use meaning_cta::{append_audio, append_flags, append_hdmi, append_speakers};
-use meaning_descriptors::append_descriptor;
+use meaning_base::append_descriptor;
 use meaning_words::{Page, append_timing, append_video};
 use std::process::Abort;
 

@@ -42,7 +42,7 @@ use Rattle.program_calls.specs.Live.{IsLiveDone}
 use Rattle.program_calls.specs.Reports.{WritesReports, report_kind}
 use Rattle.program_input.specs.Parted.{IsRunInput, IsStepsInput}
 use Rattle.program_input.specs.Read.{IsAllOf}
-use Rattle.program_source.specs.Source.{known_bytes, known_joined}
+use Rattle.program_input.specs.Source.{known_bytes, known_joined}
 use Rattle.program_calls.specs.Tests.{IsTestOf}
 
 -- this text with these counts is the trace of the run that the input spells

@@ -11,7 +11,7 @@ use message_text::FrameLinesError;
 use program_captures::MonitorFault;
 use program_edids::EdidFault;
 use program_input::InputError;
-use program_source::OpenFault;
+use program_input::OpenFault;
 use room_run::Totals;
 use room_run::emulate::EmulateError;
 use room_steps::step_run::StepRunError;

@@ -1,11 +1,11 @@
 //! What files hold.
 ghost use Rattle.std.specs.Prelude.{◌≡◌, ◌++◌, IfOk, map, string_bytes};
 ghost use Rattle.program_input.specs.Read.{IsAllOf};
-ghost use Rattle.program_source.specs.Source.{known_joined};
+ghost use Rattle.program_input.specs.Source.{known_joined};
 
 use crate::fault::ProgramFault;
 use program_input::read_input;
-use program_source::Opens;
+use program_input::Opens;
 use std::alloc::Global;
 
 /// The first of some files that was not read, and why.

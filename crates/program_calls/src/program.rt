@@ -9,7 +9,7 @@ ghost use Rattle.program_calls.specs.Done.{AreServed, AreServedAs, IsHelp, IsSer
 ghost use Rattle.program_calls.specs.Live.{Lives};
 ghost use Rattle.cli_words.specs.MonFlags.{signal_in};
 ghost use Rattle.cli_words.specs.Operands.{asked_on, takes};
-ghost use Rattle.program_source.specs.Source.{known_bytes, known_joined};
+ghost use Rattle.program_input.specs.Source.{known_bytes, known_joined};
 
 use crate::fault::ProgramFault;
 use crate::files::{FileFault, read_files};
@@ -24,7 +24,7 @@ use cli_command::{Refused, choose};
 use cli_words::{Asked, CommandChoice, CommandLine, FollowChoice, is_report, line_of, signal_in};
 use program_captures::follow_capture;
 use program_input::{limit_of, read_input};
-use program_source::{OpenFault, Opens, source_of};
+use program_input::{OpenFault, Opens, source_of};
 use record_core::Form;
 use std::alloc::{AllocError, Global};
 use std::io::Read;

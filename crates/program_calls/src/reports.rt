@@ -20,7 +20,7 @@ use crate::said::{remark, report};
 use crate::status::write_fault;
 use json_report::ReportKind;
 use program_input::limit_of;
-use program_source::Opens;
+use program_input::Opens;
 use std::alloc::AllocError;
 use text_core::{
     Buffered, Counted, Held, Piece, Sink, TextOfLine, WriteFault, put_all, write_lines,

@@ -6,7 +6,7 @@ use Rattle.edid_core.specs.declared.edid.Edid.{Edid}
 use Rattle.conversion_calls.specs.Passing.{IsPassedOn}
 use Rattle.conversion_calls.specs.declared.passing.Passing.{Passing}
 use Rattle.record_core.specs.declared.cell.Form.{Form}
-use Rattle.edid_dumps.specs.Nth.{nth_in_dump}
+use Rattle.edid_dump.specs.Nth.{nth_in_dump}
 use Rattle.edid_merge.specs.Merge.{IsAnswer}
 use Rattle.edid_merge.specs.Speakers.{IsSpoken}
 use Rattle.edid_merge.specs.declared.table.Table.{Table}

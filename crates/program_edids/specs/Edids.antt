@@ -22,7 +22,7 @@ use Rattle.conversion_calls.specs.declared.passing.Destination.TheVariants as to
 use Rattle.text_core.specs.declared.phys.Phys.{Phys}
 use Rattle.edid_cta.specs.declared.raw.Ext.{Ext}
 use Rattle.edid_ddc.specs.Readout.{readout_text}
-use Rattle.edid_dumps.specs.Nth.{nth_in_dump}
+use Rattle.edid_dump.specs.Nth.{nth_in_dump}
 use Rattle.edid_base.specs.Base.{base_bytes}
 use Rattle.edid_base.specs.declared.base.Base.{Base}
 use Rattle.conversion_calls.specs.EdidText.{IsNoText}

@@ -6,7 +6,7 @@ use crate::edid_told::told;
 use arrayvec::ArrayString;
 use cli_words::{CommandChoice, EdidReading, Recipient, Source};
 use edid_as_source::{as_source, counted, write_notes};
-use edid_dumps::{dump_count, nth_dump_bytes};
+use edid_dump::{dump_count, nth_dump_bytes};
 use edid_merge::{MergeError, Table, Unfit, write_merge_notes};
 use rules_explain::{explain_counted, explain_findings, explain_no_hdmi};
 use std::alloc::{AllocError, Global};

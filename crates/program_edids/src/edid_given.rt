@@ -11,7 +11,7 @@ use cli_words::Source;
 use conversion_notes::plain_text;
 use edid_as_source::first_count;
 use edid_core::edid_to_bytes;
-use edid_dumps::nth_dump_bytes;
+use edid_dump::nth_dump_bytes;
 use edid_merge::{Table, merge_bytes};
 use edid_spelling::{canonical_text, in_words};
 use edid_texts::{TextError, parse_text};

@@ -1,2 +1,3 @@
 pub mod Parted
 pub mod Read
+pub mod Source

@@ -1,6 +1,6 @@
 //! What the program does, over readers and writers that it is handed.
 use program_calls::program::program;
-use program_source::{Opens, Shelf};
+use program_input::{Opens, Shelf};
 use std::io::{self, ErrorKind, Read, Write};
 use std::process::Abort;
 use text_core::Writes;

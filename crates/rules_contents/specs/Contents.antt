@@ -1,7 +1,7 @@
 -- What the rules ask of what stands in a data block (CTA-861-G, section 7.5, unless another is named).
 use Rattle.std.specs.Prelude.{ℕ, ◌+◌, ◌/◌, ◌%◌, ◌==◌, Bool, true, false, ◌&&◌, ◌||◌, not, nat_lt, if◌then◌else◌, Option, Some, None, List, [], ◌∷◌, length, slice_index, drop}
 use Rattle.std.specs.List.{list_any}
-use Rattle.edid_blocks.specs.Layouts.{cut_of, has_reserved, left_of}
+use Rattle.edid_tables.specs.Layouts.{cut_of, has_reserved, left_of}
 use Rattle.edid_cta.specs.Audio.{is_audio}
 use Rattle.edid_cta.specs.Hdmi.{is_hdmi}
 use Rattle.edid_cta.specs.declared.block.DataBlock.{DataBlock}

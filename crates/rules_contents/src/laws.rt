@@ -1,6 +1,6 @@
 //! Laws of what stands in data blocks.
 ghost use Rattle.std.specs.Prelude.{◌≡◌, ◌||◌};
-ghost use Rattle.edid_blocks.specs.Layouts.{has_reserved};
+ghost use Rattle.edid_tables.specs.Layouts.{has_reserved};
 ghost use Rattle.rules_contents.specs.Contents.{has_other_length, has_other_reserved, is_cut_or_left, is_named_length, is_named_reserved};
 
 use edid_cta::DataBlock;

@@ -1,5 +1,5 @@
 //! Extensions and data blocks at fault.
-use edid_blocks::{body_of, layout_of, left_of, parts_of};
+use edid_tables::{body_of, layout_of, left_of, parts_of};
 use edid_cta::{BlockKind, DataBlock, Ext};
 use edid_fields::{is_reserved, walk};
 use rules_check::Rule;

@@ -1,6 +1,6 @@
 //! Files that a command line names: those that are not opened, reports of several into a writer that fails, and a terminal.
 use super::*;
-use program_source::OpenFault;
+use program_input::OpenFault;
 
 /// The room of examples/film.test in short, whose tests hold.
 const FILM: &[u8] = b"device tv tv 4

@@ -1,6 +1,6 @@
 use Rattle.std.proofs.Common.{subst}
 use Rattle.std.proofs.lemmas.List.{take_rest}
-use Rattle.edid_base_tables.specs.declared.sections.Section.TheVariants.{Timing}
+use Rattle.edid_tables.specs.declared.sections.Section.TheVariants.{Timing}
 use Rattle.conversion_fields.proofs.Tiles.{SectionLaw, first_timing, no_timings}
 use Rattle.conversion_fields.proofs.laws.+timings_bits_stand_once.Goals as goal
 

@@ -2,7 +2,7 @@ use Rattle.std.proofs.Common.{refl, subst, ◌+◌, List, ℕ}
 use Rattle.std.proofs.lemmas.List.{take_rest}
 use Rattle.text_core.specs.Adds.{Adds}
 use Rattle.edid_base.specs.Timing.{timing_bytes}
-use Rattle.edid_base_tables.specs.declared.sections.Section.TheVariants.{Timing}
+use Rattle.edid_tables.specs.declared.sections.Section.TheVariants.{Timing}
 use Rattle.conversion_fields.proofs.Adding.{first_then}
 use Rattle.conversion_fields.specs.Parts.{part_text, parts_text}
 use Rattle.conversion_fields.specs.Whole.{section_part, timings_parts}

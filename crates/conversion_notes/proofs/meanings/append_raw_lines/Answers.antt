@@ -1,6 +1,6 @@
 use Rattle.conversion_notes.proofs.Joins.{joined}
 use Rattle.meaning_base.specs.Raws.{raw_meanings}
-use Rattle.meaning_descriptors.specs.Descriptors.{descriptor_meanings}
+use Rattle.meaning_base.specs.Descriptors.{descriptor_meanings}
 use Rattle.conversion_notes.proofs.meanings.append_raw_lines.Goals as goal
 
 pub returns : goal.returns

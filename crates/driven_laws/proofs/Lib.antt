@@ -1,4 +1,0 @@
-pub mod Turns
-pub mod Names
-pub mod Captures
-pub mod Dumps

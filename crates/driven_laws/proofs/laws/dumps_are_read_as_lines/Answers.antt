@@ -1,5 +1,0 @@
-use Rattle.driven_laws.proofs.Dumps as lemmas
-use Rattle.driven_laws.proofs.laws.dumps_are_read_as_lines.Goals as goal
-
-pub returns : goal.returns
-returns c = lemmas.dumps_are_read_as_lines

@@ -1,5 +1,0 @@
-use Rattle.edid_base_tables.proofs.AreTables.{are_tables}
-use Rattle.edid_base_tables.proofs.laws.sections_are_tables.Goals as goal
-
-pub returns : goal.returns
-returns c = are_tables

@@ -1,0 +1,5 @@
+pub mod Rising
+pub mod Named
+pub mod Rows
+pub mod Products
+pub mod Itself

@@ -1,0 +1,3 @@
+pub mod AreSections
+pub mod AreBlocks
+pub mod AreFrames

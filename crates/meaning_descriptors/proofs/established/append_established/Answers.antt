@@ -1,9 +1,0 @@
-use Rattle.meaning_descriptors.proofs.Joins.{joined}
-use Rattle.meaning_descriptors.specs.Established.{spare_lines, first_lines, second_lines}
-use Rattle.meaning_descriptors.proofs.established.append_established.Goals as goal
-
-pub returns : goal.returns
-returns c =
-    let p = c.args.bytes.now in
-    joined _ _ _ (spare_lines p) _ c.append_spare.ensures.items
-    (joined _ _ _ (first_lines p) (second_lines p) c.append_first.ensures.items c.append_second.ensures.items)

@@ -1,4 +1,0 @@
-use Rattle.meaning_descriptors.proofs.established.append_first_bits.Goals as goal
-
-pub returns-clause-items : goal.returns-clause-items
-returns-clause-items c = c.append_bit_lines.ensures.items

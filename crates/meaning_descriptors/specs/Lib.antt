@@ -1,3 +1,0 @@
-pub mod Established
-pub mod Cvt
-pub mod Descriptors

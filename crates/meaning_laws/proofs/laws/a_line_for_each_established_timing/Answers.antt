@@ -1,6 +1,0 @@
-use Rattle.meaning_base.specs.Established.{established_rows}
-use Rattle.meaning_laws.proofs.Tables.{lines_of_bits}
-use Rattle.meaning_laws.proofs.laws.a_line_for_each_established_timing.Goals as goal
-
-pub returns : goal.returns
-returns c = lines_of_bits established_rows

@@ -1,5 +1,0 @@
-use Rattle.meaning_laws.proofs.Tables.{has_height}
-use Rattle.meaning_laws.proofs.laws.standard_timings_have_lines.Goals as goal
-
-pub returns : goal.returns
-returns c = has_height

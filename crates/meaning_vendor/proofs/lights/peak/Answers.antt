@@ -1,7 +1,0 @@
-use Rattle.std.proofs.Common.{rules}
-use Rattle.meaning_vendor.specs.Lights.{peak}
-use Rattle.meaning_vendor.proofs.lights.peak.Goals as goal
-
-pub returns-clause-value : goal.returns-clause-value
-unfolding peak
-returns-clause-value c = search rules

@@ -1,4 +1,0 @@
-pub mod Lights
-pub mod Dolby
-pub mod Vendors
-pub mod Sync

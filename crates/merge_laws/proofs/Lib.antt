@@ -1,9 +1,0 @@
-pub mod Goes
-pub mod Kept
-pub mod Whole
-pub mod Seats
-pub mod Standing
-pub mod Again
-pub mod Sorting
-pub mod Itself
-pub mod Owned

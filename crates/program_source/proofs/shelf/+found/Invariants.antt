@@ -1,5 +1,0 @@
-use Rattle.std.proofs.Common.{length}
-use Rattle.program_source.proofs.shelf.+found.Given as goal
-
-abbrev pub decreases-found : goal.decreases-found
-decreases-found l = length l.files.now

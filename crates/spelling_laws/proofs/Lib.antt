@@ -1,6 +1,0 @@
-pub mod Plain
-pub mod VideoBack
-pub mod AudioBack
-pub mod SpeakersBack
-pub mod Weights
-pub mod HdmiBack

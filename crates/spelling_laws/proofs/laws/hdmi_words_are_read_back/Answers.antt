@@ -1,5 +1,0 @@
-use Rattle.spelling_laws.proofs.HdmiBack.{block_back}
-use Rattle.spelling_laws.proofs.laws.hdmi_words_are_read_back.Goals as goal
-
-pub returns : goal.returns
-returns c = block_back

@@ -1,5 +1,0 @@
-use Rattle.spelling_laws.proofs.SpeakersBack.{speakers_back}
-use Rattle.spelling_laws.proofs.laws.speakers_words_are_read_back.Goals as goal
-
-pub returns : goal.returns
-returns c = speakers_back

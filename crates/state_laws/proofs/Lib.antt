@@ -1,2 +1,0 @@
-mod Said
-mod Having
