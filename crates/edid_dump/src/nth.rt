@@ -3,8 +3,8 @@ ghost use Rattle.std.specs.Prelude.{◌≡◌};
 ghost use Rattle.edid_dump.specs.Dump.{Gives};
 ghost use Rattle.edid_dump.specs.Nth.{begins, dump_count, later_by, nth_in_dump, shifted};
 
+use crate::dump::{DumpError, dump_bytes, looks_like_dump};
 use arrayvec::ArrayVec;
-use edid_dump::{DumpError, dump_bytes, looks_like_dump};
 use text_core::first_line;
 
 // Whether an EDID begins with a line.
