@@ -18,7 +18,7 @@ use Rattle.follow_core.specs.Follow.{AreFirst, AreLeft, Come, HaveCome, LongLine
 use Rattle.follow_core.specs.Lines.{form_as, lines_captured}
 use Rattle.follow_core.specs.declared.lines.LineForm.{LineForm}
 use Rattle.follow_core.specs.declared.lines.LineForm.TheVariants as forms
-use Rattle.follow_audit.specs.Follow.{BeginsWithTwo, Ends, Follows, HasBegun, HasCut, HasHeard, HasStopped, Hears, HoldsNothing, IsFollowed, IsHandedOn, IsPrompt, IsReady, IsUpToDate, LeavesAlone, kind_of, line_error, text_of}
+use Rattle.follow_audit.specs.Follow.{BeginsWithTwo, Ends, Follows, HasBegun, HasCut, HasHeard, HasStopped, Hears, HoldsNothing, IsFollowed, IsHandedOn, IsPrompt, IsReady, IsUpToDate, LeavesAlone, kind_of, line_error, lines_in, text_of}
 use Rattle.follow_audit.specs.declared.error.FollowAuditError.{FollowAuditError}
 use Rattle.follow_audit.specs.declared.error.FollowAuditError.TheVariants.{Capture, Memory, Read, TooLong, Waiting, Write}
 use Rattle.follow_audit.specs.declared.follower.AuditFollower.{AuditFollower}
