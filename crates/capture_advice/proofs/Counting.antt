@@ -1,42 +1,60 @@
 -- Counts that stay at their greatest value.
-use Rattle.std.proofs.Common.{◌≡◌, ℕ, ◌+◌, ◌-◌, ◌<◌, ◌≤◌, min, List, [], ◌∷◌, ◌++◌, map, refl, sym, ◌∙◌, ap, subst, arith}
-use Rattle.line_frames.specs.declared.Ending.{Ending}
-use Rattle.line_reading.specs.Readings.{Listed}
+use Rattle.std.proofs.Common.{◌≡◌, ℕ, ◌+◌, ◌-◌, ◌<◌, ◌≤◌, min, List, [], ◌∷◌, map, refl, sym, ◌∙◌, ap, subst, arith}
+use Rattle.std.proofs.Math.Nat.{min-le_right}
 use Rattle.line_reading.specs.Windows.{wider}
 use Rattle.line_reading.specs.declared.times.Windows.{Windows}
 use Rattle.capture_core.specs.Edges.{Captured}
 use Rattle.capture_monitor.specs.Watch.{captured_by}
 use Rattle.audit_notes.specs.Lines.{AuditLine}
-use Rattle.audit_notes.specs.Lines.AuditLine.{Reading}
-use Rattle.capture_advice.specs.Counts.{Counts, capped, complete_at, complete_in, count_in, count_of, most_count}
+use Rattle.audit_notes.specs.Lines.AuditLine.{Group, Note, Reading, Word}
+use Rattle.capture_advice.specs.Counts.{Counts, capped, complete_at, complete_in, count_in, count_of, counted_after, most_count, one_more}
 
-pub none_counted : (n : ℕ) → Counts n [] n
-none_counted n = refl
+zero_more : (n : ℕ) → capped n ≡ capped (n + 0)
+zero_more n = omega arith
 
-in_both : (xs ys : List AuditLine) → complete_in (xs ++ ys) ≡ complete_in xs + complete_in ys
-in_both [] ys = omega arith
-in_both (x ∷ xs) ys = let rest : complete_in (xs ++ ys) ≡ complete_in xs + complete_in ys = in_both xs ys in omega (arith, rest)
+zero_first : (n : ℕ) → capped (0 + n) ≡ capped n
+zero_first n = omega arith
+
+capped_once : (n k : ℕ) → capped (min (n + k) most_count) ≡ capped (n + k)
+capped_once n k = omega arith
 
 capped_more : (a b x y : ℕ) → capped b ≡ capped (a + x) → capped (b + y) ≡ capped (a + (x + y))
 capped_more a b x y e = omega (arith, e)
 
-pub both_counted : (a b c : ℕ) (xs ys : List AuditLine) → Counts a xs b → Counts b ys c → Counts a (xs ++ ys) c
-both_counted a b c xs ys first second =
-    second ∙ capped_more a b (complete_in xs) (complete_in ys) first ∙ ap (λ (n : ℕ). capped (a + n)) (sym (in_both xs ys))
+one_capped : (n : ℕ) (line : AuditLine) → capped (one_more n line) ≡ capped (n + count_in line)
+one_capped n (Reading x) = capped_once n (count_of x.reported.ending)
+one_capped n (Group group) = zero_more n
+one_capped n (Word word) = zero_more n
+one_capped n (Note note) = zero_more n
 
-capped_once : (n k : ℕ) → capped (min (n + k) most_count) ≡ capped (n + (k + 0))
-capped_once n k = omega arith
+capped_along : (n : ℕ) (lines : List AuditLine) → capped (counted_after n lines) ≡ capped (n + complete_in lines)
+capped_along n [] = zero_more n
+capped_along n (x ∷ xs) = capped_along (one_more n x) xs ∙ capped_more n (one_more n x) (count_in x) (complete_in xs) (one_capped n x)
 
-pub one_counted : (n k : ℕ) (x : Listed) → k ≡ count_of x.reported.ending → Counts n (Reading x ∷ []) (min (n + k) most_count)
-one_counted n k x e = subst (λ (m : ℕ). capped (min (n + k) most_count) ≡ capped (n + (m + 0))) e (capped_once n k)
+one_most : (n : ℕ) (line : AuditLine) → n ≤ most_count → one_more n line ≤ most_count
+one_most n (Reading x) h = min-le_right (n + count_of x.reported.ending) most_count
+one_most n (Group group) h = h
+one_most n (Word word) h = h
+one_most n (Note note) h = h
+
+after_most : (n : ℕ) (lines : List AuditLine) → n ≤ most_count → counted_after n lines ≤ most_count
+after_most n [] h = h
+after_most n (x ∷ xs) h = after_most (one_more n x) xs (one_most n x h)
+
+zero_most : 0 ≤ most_count
+zero_most = omega arith
+
+pub within_most : (n : ℕ) (lines : List AuditLine) → Counts 0 lines n → n ≤ most_count
+within_most n lines counts = subst (λ (m : ℕ). m ≤ most_count) (sym counts) (after_most 0 lines zero_most)
+
+pub same_windows : (n margin : ℕ) (windows : Windows) (c : Captured) → windows ≡ wider margin → Counts 0 (map Reading (captured_by windows c)) n → capped n ≡ capped (complete_at margin c)
+same_windows n margin windows c e counts =
+    ap (λ (j : ℕ). capped j) counts ∙ capped_along 0 (map Reading (captured_by windows c)) ∙ zero_first (complete_in (map Reading (captured_by windows c)))
+    ∙ ap (λ (w : Windows). capped (complete_in (map Reading (captured_by w c)))) e
 
 -- the greater of two counts is of more
 pub more_read : (a b n m : ℕ) → capped a ≡ capped m → a ≤ most_count → capped b ≡ capped n → 0 < a - b → n < m
 more_read a b n m e within f more = omega (arith, e, within, f, more)
 
-pub same_windows : (n margin : ℕ) (windows : Windows) (c : Captured) → windows ≡ wider margin → Counts 0 (map Reading (captured_by windows c)) n → capped n ≡ capped (complete_at margin c)
-same_windows n margin windows c e counts =
-    counts ∙ capped_zero (complete_in (map Reading (captured_by windows c))) ∙ ap (λ (w : Windows). capped (complete_in (map Reading (captured_by w c)))) e
-  where
-    capped_zero : (k : ℕ) → capped (0 + k) ≡ capped k
-    capped_zero k = ap (λ (j : ℕ). capped j) (omega arith)
+pub never : 0 < 0 → ⊥
+never h = omega (arith, h)

@@ -1,8 +1,9 @@
 -- How many complete readings a capture has by windows that are wider (own), and of what a margin is advised.
-use Rattle.std.specs.Prelude.{◌≡◌, ℕ, ◌+◌, ◌-◌, ◌<◌, ◌≤◌, min, List, [], ◌∷◌, map}
+use Rattle.std.specs.Prelude.{◌≡◌, ℕ, ◌+◌, ◌<◌, min, List, [], ◌∷◌, map}
 use Rattle.line_frames.specs.declared.Ending.{Ending}
 use Rattle.line_frames.specs.declared.Ending.TheVariants.{Complete}
 use Rattle.line_reading.specs.Windows.{wider}
+use Rattle.audit_widths.specs.Spreads.{sum_of}
 use Rattle.capture_core.specs.Edges.{Captured}
 use Rattle.capture_monitor.specs.Watch.{captured_by}
 use Rattle.audit_notes.specs.Lines.{AuditLine}
@@ -26,16 +27,24 @@ complete_in (line ∷ lines) = count_in line + complete_in lines
 abbrev pub complete_at : ℕ → Captured → ℕ
 complete_at margin c = complete_in (map Reading (captured_by (wider margin) c))
 
--- counts stay at the greatest value that they have
+-- a count that stays at the greatest value that it has
 abbrev pub most_count : ℕ
 most_count = 18446744073709551615
 
 abbrev pub capped : ℕ → ℕ
 capped n = min n most_count
 
--- after these lines a count is that of before and theirs
+-- after a line, and after lines
+abbrev pub one_more : ℕ → AuditLine → ℕ
+one_more n (Reading x) = sum_of n (count_of x.reported.ending)
+one_more n _ = n
+
+abbrev pub counted_after : ℕ → List AuditLine → ℕ
+counted_after n [] = n
+counted_after n (line ∷ lines) = counted_after (one_more n line) lines
+
 abbrev pub Counts : ℕ → List AuditLine → ℕ → Type 0
-Counts before lines after = capped after ≡ capped (before + complete_in lines)
+Counts before lines after = after ≡ counted_after before lines
 
 -- A margin that is advised reads more.
 abbrev pub ReadsMore : Captured → Widening → Type 0

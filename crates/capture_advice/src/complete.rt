@@ -26,11 +26,10 @@ fn count_of(ending: Ending) -> u64
 
 impl LineHearer for Complete {
     ghost use Rattle.capture_advice.specs.Counts.{Counts};
-    ghost use Rattle.capture_advice.proofs.Counting.{both_counted, none_counted};
+    ghost use Rattle.capture_advice.specs.Counting.{both_counted, none_counted};
 
     ghost hears = { λ old lines new. Counts old.count lines new.count };
 
-    #[tactic(auto, using(crate::proofs::Counting::one_counted))]
     fn reading(&mut self, reading: &Reading) {
         self.count = self.count.saturating_add(count_of(reading.ending));
     }

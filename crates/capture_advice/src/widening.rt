@@ -1,6 +1,7 @@
 //! The margin with which most frames of a capture are read.
-ghost use Rattle.std.specs.Prelude.{◌≡◌, ◌≤◌};
-ghost use Rattle.capture_advice.specs.Counts.{ReadsMore, capped, complete_at, most_count};
+ghost use Rattle.std.specs.Prelude.{◌≡◌, ◌-◌, ◌≤◌};
+ghost use Rattle.line_reading.specs.Windows.{most_margin};
+ghost use Rattle.capture_advice.specs.Counts.{ReadsMore, capped, complete_at};
 
 use crate::complete::complete_by;
 use crate::lacks::margins_of;
@@ -15,12 +16,28 @@ pub struct Widening {
 }
 
 impl Widening {
-    /// None.
-    const NONE: Widening = Widening { margin: 0, more: 0 };
-
     fn is_better(self, other: Widening) -> bool {
         self.more > other.more || (self.more == other.more && self.margin < other.margin)
     }
+}
+
+// No margin reads more.
+fn none(_capture: &Capture) -> Widening
+    ensures { ReadsMore _capture.now result }
+{
+    Widening { margin: 0, more: 0 }
+}
+
+fn at_most(margin: u64) -> u64
+    ensures { result ≤ most_margin }
+{
+    margin.min(MOST_MARGIN)
+}
+
+fn more_than(count: u64, plain: u64) -> u64
+    ensures { result ≡ count - plain }
+{
+    count.saturating_sub(plain)
 }
 
 // A margin, or the one that was best before.
@@ -29,11 +46,11 @@ fn better(capture: &Capture, plain: u64, margin: u64, best: Widening) -> Widenin
     requires best { ReadsMore capture.now best }
     ensures { ReadsMore capture.now result }
 {
-    let margin = margin.min(MOST_MARGIN);
+    let margin = at_most(margin);
     let count = complete_by(capture, margin);
     let tried = Widening {
         margin,
-        more: count.saturating_sub(plain),
+        more: more_than(count, plain),
     };
     if tried.is_better(best) { tried } else { best }
 }
@@ -57,5 +74,5 @@ pub fn widening_of(capture: &Capture) -> Widening
 {
     let plain = complete_by(capture, 0);
     let margins = margins_of(capture);
-    best_of(capture, plain, margins.as_slice(), Widening::NONE)
+    best_of(capture, plain, margins.as_slice(), none(capture))
 }

@@ -217,7 +217,8 @@ fn name_chatter<E: Sink>(count: u64, err: &mut E) {
 }
 
 fn name_more<E: Sink>(widening: Widening, err: &mut E) {
-    let Widening { margin, more } = widening;
+    let margin = widening.margin;
+    let more = widening.more;
     let frames = if more == 1 { "frame" } else { "frames" };
     let mut text = ArrayString::<80>::new();
     let _ = writeln!(
