@@ -1,5 +1,5 @@
 -- The report of a run that is held in memory, which is one.
-use Rattle.std.proofs.Common.{◌≡◌, ℕ, Bool, true, false, List, [], ◌∷◌, ◌++◌, Option, Some, None, Result, Ok, Err, refl, sym, ap, ◌∙◌}
+use Rattle.std.proofs.Common.{◌≡◌, ℕ, true, List, [], ◌∷◌, Option, Some, None, Result, Ok, Err, refl, sym, ap, ◌∙◌}
 use Rattle.text_core.specs.Lines.{lines_of}
 use Rattle.text_core.specs.Words.{words_of}
 use Rattle.expect_text.specs.Line.{unlabelled_words, cut_script, plain_script}
@@ -8,7 +8,6 @@ use Rattle.expect_text.specs.Form.ExpectLine.{Other, Rounds, State, Refused, Unr
 use Rattle.text_core.specs.declared.at.AtWord.{AtWord}
 use Rattle.expect_text.specs.declared.form.ExpectCause.{ExpectCause}
 use Rattle.expect_text.specs.Faults.{first_fault}
-use Rattle.expect_text.specs.Names.{has_names}
 use Rattle.room_run.specs.Run.{Config}
 use Rattle.expect_told.specs.Turns.{IsToldOf, TextsEndSo, TextsHaveOneTold}
 use Rattle.capture_core.specs.Edges.{Captured}
@@ -18,7 +17,6 @@ use Rattle.capture_forms.specs.declared.form.CaptureForm.TheVariants.{Edges}
 use Rattle.expect_remarks.specs.Kept.{audit_remarks}
 use Rattle.expect_remarks.specs.Met.{remarks_met, shown_remarks}
 use Rattle.room_run.specs.Emulate.{TextsHaveOneLine}
-use Rattle.room_run.specs.declared.run.Totals.{Totals}
 use Rattle.expect_judge.specs.Told.{Told}
 use Rattle.expect_run.specs.States.{AreStates, IsStateOf, IsTraced, device_of, state_said}
 use Rattle.expect_run.specs.Report.{Report, report}

@@ -1,5 +1,5 @@
 -- What was heard of a run, and that its script has a trace.
-use Rattle.std.proofs.Common.{◌≡◌, Bool, List, ℕ, Ok, Option, Result, subst, sym}
+use Rattle.std.proofs.Common.{◌≡◌, Bool, List, ℕ, Ok, Option, subst, sym}
 use Rattle.edid_core.specs.Root.{IsRoot}
 use Rattle.edid_core.specs.declared.edid.Edid.{Edid}
 use Rattle.room_net.specs.State.{NetState, first_net}

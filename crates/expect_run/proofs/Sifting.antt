@@ -1,5 +1,5 @@
 -- What is kept of a run, turn by turn, is what a script needs of what is told of it, or all.
-use Rattle.std.proofs.Common.{◌≡◌, ℕ, Bool, true, false, not, ◌&&◌, ◌||◌, cond, if◌then◌else◌, List, [], ◌∷◌, ◌++◌, map, filter, refl, sym, ap, ap₂, ◌∙◌, subst, append_assoc, append-nil}
+use Rattle.std.proofs.Common.{◌≡◌, ℕ, Bool, true, false, not, ◌&&◌, ◌||◌, List, [], ◌∷◌, ◌++◌, refl, sym, ap, ◌∙◌, subst, append_assoc, append-nil}
 use Rattle.std.specs.List.{flat_map, list_all}
 use Rattle.std.proofs.lemmas.Bool.{false≢true}
 use Rattle.std.proofs.lemmas.List.Elements.{filter-append}
@@ -8,16 +8,15 @@ use Rattle.device_core.specs.State.{State}
 use Rattle.room_script.specs.declared.script.TimedEvent.{TimedEvent}
 use Rattle.room_run.specs.Happening.{Happening}
 use Rattle.room_run.specs.Happening.Happening.{OfEvent, OfRound}
-use Rattle.room_run.specs.Heard.{Hears, IsRunHeard}
-use Rattle.room_run.specs.Run.{start, turn_at}
+use Rattle.room_run.specs.Heard.{Hears}
 use Rattle.room_net.specs.State.{NetState}
 use Rattle.room_net.specs.Apply.{event_fault}
 use Rattle.expect_text.specs.Line.{plain_script}
 use Rattle.expect_text.specs.Names.{has_names}
 use Rattle.expect_judge.specs.Told.{EventLine, RoundLine, Told}
 use Rattle.expect_told.specs.Turns.{IsHeardOf, IsToldOf, event_told, events_of, round_told, rounds_of, told_by}
-use Rattle.expect_run.specs.Check.{IsHeardSo, IsKeptOf}
-use Rattle.expect_run.specs.Kept.{are_timed, is_event_kept, is_round_kept, is_timed, joined, kept, kept_if}
+use Rattle.expect_run.specs.Check.{IsHeardSo}
+use Rattle.expect_run.specs.Kept.{are_timed, is_event_kept, is_round_kept, is_timed, joined, kept_if}
 use Rattle.expect_run.specs.Sifted.{AreOnTime, IsSifted, Sifting, SiftsOne, events_if, first_sifting, rounds_if}
 
 -- ---- one turn

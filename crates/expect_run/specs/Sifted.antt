@@ -4,7 +4,7 @@ use Rattle.room_run.specs.Happening.{Happening}
 use Rattle.expect_judge.specs.Told.{EventLine, RoundLine, Told, event_as, kept_as}
 use Rattle.expect_run.specs.declared.told.KeptTold.{KeptTold}
 use Rattle.expect_run.specs.declared.told.RunTold.{RunTold}
-use Rattle.expect_told.specs.Turns.{events_of, told_by}
+use Rattle.expect_told.specs.Turns.{told_by}
 use Rattle.expect_run.specs.Kept.{are_timed, is_event_kept, is_round_kept, joined, kept_if}
 
 -- how far it is: the script whose needs are kept, or all; whether rounds say who holds which address; whether nothing more is kept

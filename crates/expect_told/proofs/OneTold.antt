@@ -1,6 +1,5 @@
 -- The texts have one run: each turn is one, and leads to one place.
-use Rattle.std.proofs.Common.{◌≡◌, ◌∙◌, ◌++◌, List, [], ◌∷◌, ℕ, Option, Some, None, ap, ap₂, refl, subst, sym, Result, Ok}
-use Rattle.std.specs.List.{flat_map}
+use Rattle.std.proofs.Common.{◌≡◌, ◌∙◌, List, [], ◌∷◌, ℕ, ap, ap₂, refl, subst, sym, Result, Ok}
 use Rattle.room_script.specs.Script.{Course, IsScriptRead, OneScript}
 use Rattle.text_core.specs.declared.at.At.{At}
 use Rattle.room_script.specs.declared.script.ScriptCause.{ScriptCause}

@@ -1,5 +1,5 @@
 -- Who sends in a round, and who holds which logical address when it begins (own): `@NAME=ADDRESS@NAME=ADDRESS@`.
-use Rattle.std.specs.Prelude.{ℕ, ◌%◌, nat_lt, List, [], ◌∷◌, ◌++◌, if◌then◌else◌, map, Option, Some, None, codes}
+use Rattle.std.specs.Prelude.{ℕ, ◌%◌, nat_lt, List, [], ◌++◌, if◌then◌else◌, map, Option, Some, None, codes}
 use Rattle.std.specs.List.{flat_map}
 use Rattle.text_core.specs.Piece.{nibble_text}
 use Rattle.device_core.specs.State.{State, held_by as all_held}

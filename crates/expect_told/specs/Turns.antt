@@ -1,6 +1,6 @@
 -- What is told of a run (own): of its turns the rounds and the events, in order. It says of each round what the line of the trace says
 -- after its times, and, where a pattern has names, who holds which address when the round begins.
-use Rattle.std.specs.Prelude.{◌≡◌, ℕ, Bool, true, false, codes, List, [], ◌∷◌, ◌++◌, Option, option_map}
+use Rattle.std.specs.Prelude.{◌≡◌, ℕ, Bool, true, false, List, [], ◌∷◌, ◌++◌, Option, option_map}
 use Rattle.std.specs.List.{flat_map}
 use Rattle.line_rounds.specs.declared.Outcome.{Outcome}
 use Rattle.device_core.specs.State.{State}

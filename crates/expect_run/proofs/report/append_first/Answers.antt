@@ -1,4 +1,4 @@
-use Rattle.std.proofs.Common.{◌≡◌, ◌++◌, ◌∙◌, sym}
+use Rattle.std.proofs.Common.{◌++◌, ◌∙◌, sym}
 use Rattle.std.proofs.lemmas.List.{take_rest}
 use Rattle.expect_judge.specs.Seen.{is_seen}
 use Rattle.text_core.specs.Held.{held_bytes}

@@ -1,4 +1,5 @@
 use Rattle.std.proofs.Common.{List, ℕ, ap, subst, ◌∙◌}
+use Rattle.room_net.specs.State.{NetState}
 use Rattle.room_run.specs.Emulate.{IsReported}
 use Rattle.expect_run.specs.States.{state_said}
 use Rattle.expect_run.proofs.Refusals.{IsWant, not_refused_earlier}
@@ -20,4 +21,4 @@ unreachable-requires-in-Edid c =
 pub returns : goal.returns
 returns c =
     state_of_run (λ r x s. Unit {0}) c.args.topology.now c.args.plain.now c.deref.result.now c.args.device.now c.in_ok-state.state.items c.args.time _ _ c.in-Ok.net.value c.devices.result.now
-    (c.deref.ensures.value ∙ c.in_ok-cut.ensures) c.in-Ok.ensures.ok c.devices.ensures (c.in_ok-state.ensures ∙ ap state_said c.device_of.ensures)
+    (c.deref.ensures.value ∙ c.in_ok-cut.ensures) c.in-Ok.ensures.ok (c.devices.ensures ∙ ap (λ (s : NetState). s.devices) c.deref-2.ensures) (c.in_ok-state.ensures ∙ ap state_said c.device_of.ensures)

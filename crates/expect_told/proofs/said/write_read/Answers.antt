@@ -1,4 +1,4 @@
-use Rattle.std.proofs.Common.{◌++◌, rules}
+use Rattle.std.proofs.Common.{rules}
 use Rattle.text_core.proofs.Adding.{text_ended}
 use Rattle.expect_told.specs.Said.{reading_said}
 use Rattle.expect_told.proofs.said.write_read.Goals as goal

@@ -1,9 +1,9 @@
-use Rattle.std.proofs.Common.{◌≡◌, ◌∙◌, ◌∷◌, [], Option, ap, option_map, refl}
-use Rattle.room_event.specs.declared.event.EventError.{EventError}
+use Rattle.std.proofs.Common.{◌≡◌, ◌∙◌, ◌∷◌, [], ap, option_map, refl, sym}
+use Rattle.std.specs.Option.{option_copied}
 use Rattle.room_trace.specs.TraceText.{error_word}
 use Rattle.room_net.specs.Apply.{event_fault}
 use Rattle.room_run.specs.Happening.Happening.{OfEvent}
-use Rattle.expect_judge.specs.Told.{EventLine, event_as}
+use Rattle.expect_judge.specs.Told.{EventLine}
 use Rattle.expect_told.specs.Turns.{event_told}
 use Rattle.expect_run.specs.Sifted.{sifted_as}
 use Rattle.expect_run.proofs.Sifting.{event_sifted, lost_sifted}
@@ -17,8 +17,9 @@ pub returns-in-Ok : goal.returns-in-Ok
 returns-in-Ok g c = λ before applied.
     let at = c.args.applied.now.at in
     let e = c.args.applied.now.event.now in
-    let is : event_as c.event ≡ event_told at e (event_fault before e.event) = λ i. record { at = at; line = e.line; refused = (c.refusal_said.ensures ∙ ap (option_map error_word) applied.refused_is) i } in
-    event_sifted (sifted_as c.args.self.now) _ at e before (event_as c.event) is refl refl refl refl (c.is_on_time.ensures) refl c.in-Ok.ensures
+    let event : EventLine = record { at = at; line = e.line; refused = option_copied c.refusal_said.result } in
+    let is : event ≡ event_told at e (event_fault before e.event) = λ i. record { at = at; line = e.line; refused = (c.refusal_said.ensures ∙ ap (option_map error_word) applied.refused_is) i } in
+    event_sifted (sifted_as c.args.self.now) _ at e before event is refl refl refl refl (sym c.is_on_time.ensures ∙ c.if-not-is_on_time.false) refl c.in-Ok.ensures
 
 pub returns-in-Err : goal.returns-in-Err
 returns-in-Err g c = λ before applied.
