@@ -94,10 +94,12 @@ WRONG = [
     (126, 2),
     (131, 0x71),  # the flags of the first extension lack bit 7
     (135, 4),  # video code 4 stands twice
+    (136, 63),  # a code of 297 MHz, on a link of 165
     (149, 0x10), (150, 0x20),  # a port after a 0
 ]
 WRONG_FOUND = {
     "fail standard-unused-form": [42, 43], "fail vic-twice": [134, 135], "warn overscan": [128, 129, 130, 131],
+    "fail out-of-range": [136], "fail link-clock": [136],
     "fail address": [*range(145, 151)], "warn unknown-extension": [*range(256, 383)], "fail text-form": [*range(90, 108)],
     "fail week-reserved": [16, 17], "warn year-late": [16, 17], "warn srgb-gamma": [23], "fail input-reserved": [20],
     "warn ycc-quantization": [151, 152, 153], "fail timing 2 clock": [*range(72, 90)], "fail timing 2 out-of-range": [*range(72, 90)],

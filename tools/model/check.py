@@ -150,6 +150,15 @@ SIZES = {
 }
 
 
+# the pixels of a line of the codes above 64 (CTA-861, table 3)
+WIDTHS = {
+    1280: [*range(65, 72), 108, 109], 1680: [*range(79, 86), 110], 1920: [*range(72, 79), 111, 112], 2560: [*range(86, 93), 113],
+    3840: [*range(93, 98), *range(103, 108), 114, 116, *range(117, 121)], 4096: [*range(98, 103), 115, 218, 219],
+    5120: [*range(121, 128), 193], 7680: [*range(194, 210)], 10240: [*range(210, 218)],
+}
+WIDTH_OF = {code: width for width, codes in WIDTHS.items() for code in codes} | {code: size[0] for size, codes in SIZES.items() for code in codes}
+
+
 def chroma(b):
     low = [b[25] >> 6, b[25] >> 4 & 3, b[25] >> 2 & 3, b[25] & 3, b[26] >> 6, b[26] >> 4 & 3, b[26] >> 2 & 3, b[26] & 3]
     return tuple(b[27 + i] << 2 | low[i] for i in range(8))
@@ -221,6 +230,44 @@ def has_format_outside(b, four, codes):
     return any(is_pace_outside(b, four, *pace) for pace in paces) or any(is_standard_outside(b, four, *pair) for pair in pairs)
 
 
+def is_of_hdmi(b):
+    """a digital input; in 1.4 its interface is HDMI or not defined"""
+    return b[20] >= 128 and (b[19] == 3 or b[20] & 15 in (0, 2, 3))
+
+
+def is_beyond(blocks, clock, width, pixels, halved):
+    """an HDMI block stands there, and no block of HDMI's gives a link for this: characters of TMDS, or a fixed rate for the pixels that are
+    shown of a line"""
+    hdmi = [bytes(data) + bytes(2) for tag, data in blocks if is_hdmi(tag, data)]
+    forums = [bytes(data[3:]) + bytes(8) for tag, data in blocks if sort_of(tag, data) == 'forum']
+    rates = [(5000 * data[6] or 165000) * (1 + (data[5] & 1)) for data in map(lambda d: d + bytes(7), hdmi)] + [5000 * q[1] for q in forums]
+    if not hdmi or clock // (1 + halved) <= max(rates):
+        return False
+    for q in forums:
+        bits = 6 if q[7] & 128 else 12 if halved else 24
+        lanes = {1: (3, 3), 2: (3, 6), 3: (4, 6), 4: (4, 8), 5: (4, 10), 6: (4, 12)}.get(q[3] >> 4)
+        if q[3] >> 4 > 6 or lanes and clock * width * bits * 18 <= lanes[0] * lanes[1] * 10**6 * 16 * pixels:
+            return False
+    return True
+
+
+def code_needs(blocks):
+    """of each code the clock in kHz, the pixels of a line that are shown and all of them, and whether it is in 4:2:0 alone"""
+    plain = lambda c: c - 128 if 129 <= c <= 192 else c
+    for tag, data in blocks:
+        codes = []
+        if tag == 2:
+            codes = [(plain(c), False) for c in data]
+        elif tag == 7 and bytes(data[:1]) == b'\x0e':
+            codes = [(plain(c), True) for c in data[1:]]
+        elif is_hdmi(tag, data):
+            codes = [(HDMI_CODES.get(c, 0), False) for c in hdmi_video_codes(data)]
+        for code, halved in codes:
+            if code in PACE_OF:
+                clock, pixels, _ = PACE_OF[code]
+                yield clock, WIDTH_OF.get(code, 0), pixels, halved
+
+
 def is_text(d):
     """13 characters that can be printed, or fewer, a line feed and spaces"""
     text, feed, rest = d[5:].partition(b'\n')
@@ -234,7 +281,7 @@ def latencies_late(data):
     return bool(data[7] & 128) and (told(8) or bool(data[7] & 64) and told(10))
 
 
-def timing_findings(b, t):
+def timing_findings(b, t, blocks):
     four = b[19] == 4
     zeros = (t.h_active, t.h_blank, t.h_offset, t.h_width, t.v_active, t.v_blank, t.v_width)
     if t.clock < 1000:
@@ -255,6 +302,8 @@ def timing_findings(b, t):
             yield 'fail', 'size-differs'
     if out_of_range(b, four, t):
         yield ('warn' if four else 'fail'), 'out-of-range'
+    if is_of_hdmi(b) and is_beyond(blocks, 10 * t.clock, t.h_active, t.h_active + t.h_blank, False):
+        yield 'fail', 'link-clock'
 
 
 def off_tree(high, low):
@@ -330,7 +379,7 @@ def edid_findings(e, is_port):
     exts = [read_ext(x) for x in raws]
     ctas = [x for x in exts if x is not None]
     full = [x for x in ctas if x['d']]
-    blocks = [(tag, bytes(data)) for x in full for _, tag, data in x['blocks']]
+    blocks = blocks_of(e)
     timings = timings_of(e)
     codes = [c - 128 if 129 <= c <= 192 else c for tag, data in blocks if tag == 2 for c in data]
     hdmi = [data for tag, data in blocks if is_hdmi(tag, data)]
@@ -454,6 +503,8 @@ def edid_findings(e, is_port):
         yield 'warn', 'latency-order'
     if has_format_outside(b, four, codes):
         yield ('warn' if four else 'fail'), 'out-of-range'
+    if is_of_hdmi(b) and any(is_beyond(blocks, *need) for need in code_needs(blocks)):
+        yield 'fail', 'link-clock'
     if any(d[3] in (0xFC, 0xFE, 0xFF) and not is_text(d) for d in shown):
         yield 'fail', 'text-form'
     if 54 < b[16] < 255:
@@ -470,6 +521,12 @@ def edid_findings(e, is_port):
         yield 'warn', 'length'
 
 
+def blocks_of(e):
+    """the tag and the bytes of each data block"""
+    exts = [read_ext(e[128 * i:128 * i + 128]) for i in range(1, len(e) // 128)]
+    return [(tag, bytes(data)) for x in exts if x is not None and x['d'] for _, tag, data in x['blocks']]
+
+
 def timings_of(e):
     b = e[:128]
     found = [Timing(b[54 + 18 * i:72 + 18 * i]) for i in range(4) if b[54 + 18 * i] or b[55 + 18 * i]]
@@ -483,7 +540,7 @@ def timings_of(e):
 def findings(e, is_port=False):
     out = ['%s %s' % f for f in edid_findings(e, is_port)]
     for n, t in enumerate(timings_of(e), 1):
-        out += ['%s timing %d %s' % (how, n, rule) for how, rule in timing_findings(e[:128], t)]
+        out += ['%s timing %d %s' % (how, n, rule) for how, rule in timing_findings(e[:128], t, blocks_of(e))]
     return out
 
 

@@ -3,8 +3,8 @@
 
 Each FILE is an EDID that can be read. It and COUNT changed ones of it, with mended checksums, go through both. A pair of an
 EDID and a rule on which they differ is printed, with what was changed; the last line has the counts. Not asked are `address`,
-`clock`, `speakers` and `hdmi-twice`, for which edid-decode has no line or reads no further, and `padding` and `out-of-range`,
-for which it looks at more: descriptors after the timings, and the greatest clock and the other timings."""
+`clock`, `speakers`, `hdmi-twice` and `link-clock`, for which edid-decode has no line or reads no further, and `padding` and
+`out-of-range`, for which it looks at more: descriptors after the timings, and the greatest clock and the other timings."""
 import os
 import random
 import re

@@ -11,10 +11,10 @@ use Rattle.rules_check.specs.Findings.{rule_findings, timing_findings, edid_find
 use Rattle.rules_check.specs.Laws.{IsAmong, NoneTwice, breaks_at, ListsTheBroken}
 use Rattle.rules_check.specs.declared.rule.Origin.{Origin}
 use Rattle.rules_check.specs.declared.rule.Rule.{Rule}
-use Rattle.rules_check.specs.declared.rule.Rule.TheVariants.{FirstTimingPreferred, PreferredTiming, ProductName, RangeLimits, LimitsAlone, LimitsOrder, Week, Srgb, NoEmptyDescriptor, UnusedStandard, BlockMap, HdmiRevision, OneSerial, Vga, VideoCodeOnce, NativeCount, NativeSize, Underscan, BasicAudio, Speakers, Padding, VideoCapability, RgbRange, TmdsClock, Address, OneHdmi, HdmiVideoCode, ForumAfterHdmi, CtaForm, CtaRevision, ExtensionTag, Block, BlockOnce, OverrideFirst, OverrideCount, MapWithinCodes, FastYcc420, YccRange, FormatsWithinLimits, FormatsNearLimits, TextForm, WeekKnown, YearKnown, SrgbGamma, InputKnown}
+use Rattle.rules_check.specs.declared.rule.Rule.TheVariants.{FirstTimingPreferred, PreferredTiming, ProductName, RangeLimits, LimitsAlone, LimitsOrder, Week, Srgb, NoEmptyDescriptor, UnusedStandard, BlockMap, HdmiRevision, OneSerial, Vga, VideoCodeOnce, NativeCount, NativeSize, Underscan, BasicAudio, Speakers, Padding, VideoCapability, RgbRange, TmdsClock, Address, OneHdmi, HdmiVideoCode, ForumAfterHdmi, CtaForm, CtaRevision, ExtensionTag, Block, BlockOnce, OverrideFirst, OverrideCount, MapWithinCodes, FastYcc420, YccRange, FormatsWithinLimits, FormatsNearLimits, FormatsCarried, TextForm, WeekKnown, YearKnown, SrgbGamma, InputKnown}
 use Rattle.rules_contents.specs.declared.contents.Slip.TheVariants as slip
 use Rattle.rules_check.specs.declared.rule.TimingRule.{TimingRule}
-use Rattle.rules_check.specs.declared.rule.TimingRule.TheVariants.{Clock, Fields, HorizontalBackPorch, VerticalBackPorch, SizeThere, SizeFits, WithinLimits, NearLimits}
+use Rattle.rules_check.specs.declared.rule.TimingRule.TheVariants.{Clock, Fields, HorizontalBackPorch, VerticalBackPorch, SizeThere, SizeFits, WithinLimits, NearLimits, Carried}
 use Rattle.rules_check.specs.declared.rule.Finding.{Finding}
 use Rattle.rules_check.specs.declared.rule.Finding.TheVariants.{Edid, Timing as OfTiming}
 use Rattle.rules_check.proofs.AmongLemmas.{among_left, among_right, among_cases, none_twice_append, passes_from, among_passing, none_twice_passing, named, among_at, none_twice_rises}
@@ -71,13 +71,14 @@ place_of YccRange = 45
 place_of (Block slip.Latency) = 46
 place_of FormatsWithinLimits = 47
 place_of FormatsNearLimits = 48
-place_of TextForm = 49
-place_of WeekKnown = 50
-place_of YearKnown = 51
-place_of SrgbGamma = 52
-place_of InputKnown = 53
-place_of (Block slip.Reserved) = 54
-place_of (Block slip.Bytes) = 55
+place_of FormatsCarried = 49
+place_of TextForm = 50
+place_of WeekKnown = 51
+place_of YearKnown = 52
+place_of SrgbGamma = 53
+place_of InputKnown = 54
+place_of (Block slip.Reserved) = 55
+place_of (Block slip.Bytes) = 56
 
 placed : (rule : Rule) → slice_get rules (place_of rule) ≡ Some rule
 placed FirstTimingPreferred = refl
@@ -129,6 +130,7 @@ placed YccRange = refl
 placed (Block slip.Latency) = refl
 placed FormatsWithinLimits = refl
 placed FormatsNearLimits = refl
+placed FormatsCarried = refl
 placed TextForm = refl
 placed WeekKnown = refl
 placed YearKnown = refl
@@ -152,6 +154,7 @@ timing_place_of SizeThere = 4
 timing_place_of SizeFits = 5
 timing_place_of WithinLimits = 6
 timing_place_of NearLimits = 7
+timing_place_of Carried = 8
 
 timing_placed : (rule : TimingRule) → slice_get timing_rules (timing_place_of rule) ≡ Some rule
 timing_placed Clock = refl
@@ -162,6 +165,7 @@ timing_placed SizeThere = refl
 timing_placed SizeFits = refl
 timing_placed WithinLimits = refl
 timing_placed NearLimits = refl
+timing_placed Carried = refl
 
 every_timing_rule : (rule : TimingRule) → IsAmong rule timing_rules
 every_timing_rule rule = among_at rule timing_rules (timing_place_of rule) (timing_placed rule)
@@ -219,80 +223,80 @@ edid_number o b xs f table e h =
 
 -- ---- those of one timing
 
-one_is : (b : Base) (n : ℕ) (t : Timing) (table : List TimingRule) → table ≡ timing_rules → one_timing_findings b n t ≡ timing_findings b n t table
+one_is : (b : Base) (xs : List Ext) (n : ℕ) (t : Timing) (table : List TimingRule) → table ≡ timing_rules → one_timing_findings b xs n t ≡ timing_findings b xs n t table
 unfolding one_timing_findings
-one_is b n t table e = ap (λ rs. timing_findings b n t rs) (sym e)
+one_is b xs n t table e = ap (λ rs. timing_findings b xs n t rs) (sym e)
 
-one_from : (b : Base) (n : ℕ) (t : Timing) (rule : TimingRule) (table : List TimingRule) → table ≡ timing_rules → IsAmong (OfTiming n rule) (one_timing_findings b n t) → breaks rule b t ≡ true
-one_from b n t rule table e h =
+one_from : (b : Base) (xs : List Ext) (n : ℕ) (t : Timing) (rule : TimingRule) (table : List TimingRule) → table ≡ timing_rules → IsAmong (OfTiming n rule) (one_timing_findings b xs n t) → breaks rule b xs t ≡ true
+one_from b xs n t rule table e h =
     let P : List Finding → Type 0 = λ fs. IsAmong (OfTiming n rule) fs in
-    passes_from (OfTiming n) (λ r. breaks r b t) (one_timing_rule n) rule table (subst P (one_is b n t table e) h)
+    passes_from (OfTiming n) (λ r. breaks r b xs t) (one_timing_rule n) rule table (subst P (one_is b xs n t table e) h)
 
-one_to : (b : Base) (n : ℕ) (t : Timing) (rule : TimingRule) (table : List TimingRule) → table ≡ timing_rules → IsAmong rule table → breaks rule b t ≡ true → IsAmong (OfTiming n rule) (one_timing_findings b n t)
-one_to b n t rule table e there broken =
+one_to : (b : Base) (xs : List Ext) (n : ℕ) (t : Timing) (rule : TimingRule) (table : List TimingRule) → table ≡ timing_rules → IsAmong rule table → breaks rule b xs t ≡ true → IsAmong (OfTiming n rule) (one_timing_findings b xs n t)
+one_to b xs n t rule table e there broken =
     let P : List Finding → Type 0 = λ fs. IsAmong (OfTiming n rule) fs in
-    subst P (sym (one_is b n t table e)) (among_passing (OfTiming n) (λ r. breaks r b t) rule table there broken)
+    subst P (sym (one_is b xs n t table e)) (among_passing (OfTiming n) (λ r. breaks r b xs t) rule table there broken)
 
-one_once : (b : Base) (n : ℕ) (t : Timing) (table : List TimingRule) → table ≡ timing_rules → NoneTwice table → NoneTwice (one_timing_findings b n t)
-one_once b n t table e once =
+one_once : (b : Base) (xs : List Ext) (n : ℕ) (t : Timing) (table : List TimingRule) → table ≡ timing_rules → NoneTwice table → NoneTwice (one_timing_findings b xs n t)
+one_once b xs n t table e once =
     let P : List Finding → Type 0 = λ fs. NoneTwice fs in
-    subst P (sym (one_is b n t table e)) (none_twice_passing (OfTiming n) (λ r. breaks r b t) (one_timing_rule n) table once)
+    subst P (sym (one_is b xs n t table e)) (none_twice_passing (OfTiming n) (λ r. breaks r b xs t) (one_timing_rule n) table once)
 
-one_number : (b : Base) (n : ℕ) (t : Timing) (f : Finding) (table : List TimingRule) → table ≡ timing_rules → IsAmong f (one_timing_findings b n t) → number_in f ≡ n
-one_number b n t f table e h =
+one_number : (b : Base) (xs : List Ext) (n : ℕ) (t : Timing) (f : Finding) (table : List TimingRule) → table ≡ timing_rules → IsAmong f (one_timing_findings b xs n t) → number_in f ≡ n
+one_number b xs n t f table e h =
     let P : List Finding → Type 0 = λ fs. IsAmong f fs in
-    let found = named (OfTiming n) f (filter (λ r. breaks r b t) table) (subst P (one_is b n t table e) h) in
+    let found = named (OfTiming n) f (filter (λ r. breaks r b xs t) table) (subst P (one_is b xs n t table e) h) in
     ap number_in found.1
 
 -- ---- those of all timings
 
-numbered_from : (b : Base) (n : ℕ) (ts : List Timing) (f : Finding) → IsAmong f (numbered_findings b n ts) → n ≤ number_in f
-numbered_from b n [] f h = absurd h
-numbered_from b n (t ∷ ts) f h =
-    elim (among_cases f (one_timing_findings b n t) (numbered_findings b (n + 1) ts) h) [
-      | inl k ↦ (let same = one_number b n t f timing_rules refl k in omega (arith, same))
-      | inr k ↦ (let more = numbered_from b (n + 1) ts f k in omega (arith, more))
+numbered_from : (b : Base) (xs : List Ext) (n : ℕ) (ts : List Timing) (f : Finding) → IsAmong f (numbered_findings b xs n ts) → n ≤ number_in f
+numbered_from b xs n [] f h = absurd h
+numbered_from b xs n (t ∷ ts) f h =
+    elim (among_cases f (one_timing_findings b xs n t) (numbered_findings b xs (n + 1) ts) h) [
+      | inl k ↦ (let same = one_number b xs n t f timing_rules refl k in omega (arith, same))
+      | inr k ↦ (let more = numbered_from b xs (n + 1) ts f k in omega (arith, more))
     ]
 
-timing_from : (b : Base) (n : ℕ) (ts : List Timing) (place m : ℕ) (rule : TimingRule) → m ≡ n + place → IsAmong (OfTiming m rule) (numbered_findings b n ts) → breaks_at b rule ts place ≡ true
-timing_from b n [] place m rule e h = absurd h
-timing_from b n (t ∷ ts) zero m rule e h =
-    elim (among_cases (OfTiming m rule) (one_timing_findings b n t) (numbered_findings b (n + 1) ts) h) [
+timing_from : (b : Base) (xs : List Ext) (n : ℕ) (ts : List Timing) (place m : ℕ) (rule : TimingRule) → m ≡ n + place → IsAmong (OfTiming m rule) (numbered_findings b xs n ts) → breaks_at b xs rule ts place ≡ true
+timing_from b xs n [] place m rule e h = absurd h
+timing_from b xs n (t ∷ ts) zero m rule e h =
+    elim (among_cases (OfTiming m rule) (one_timing_findings b xs n t) (numbered_findings b xs (n + 1) ts) h) [
       | inl k ↦ (let same : m ≡ n = omega (arith, e) in
-          let P : ℕ → Type 0 = λ i. IsAmong (OfTiming i rule) (one_timing_findings b n t) in
-          one_from b n t rule timing_rules refl (subst P same k))
-      | inr k ↦ (let more = numbered_from b (n + 1) ts (OfTiming m rule) k in let no : ⊥ = omega (arith, more, e) in absurd no)
+          let P : ℕ → Type 0 = λ i. IsAmong (OfTiming i rule) (one_timing_findings b xs n t) in
+          one_from b xs n t rule timing_rules refl (subst P same k))
+      | inr k ↦ (let more = numbered_from b xs (n + 1) ts (OfTiming m rule) k in let no : ⊥ = omega (arith, more, e) in absurd no)
     ]
-timing_from b n (t ∷ ts) (suc place) m rule e h =
-    elim (among_cases (OfTiming m rule) (one_timing_findings b n t) (numbered_findings b (n + 1) ts) h) [
-      | inl k ↦ (let same = one_number b n t (OfTiming m rule) timing_rules refl k in let no : ⊥ = omega (arith, same, e) in absurd no)
-      | inr k ↦ timing_from b (n + 1) ts place m rule (omega (arith, e)) k
+timing_from b xs n (t ∷ ts) (suc place) m rule e h =
+    elim (among_cases (OfTiming m rule) (one_timing_findings b xs n t) (numbered_findings b xs (n + 1) ts) h) [
+      | inl k ↦ (let same = one_number b xs n t (OfTiming m rule) timing_rules refl k in let no : ⊥ = omega (arith, same, e) in absurd no)
+      | inr k ↦ timing_from b xs (n + 1) ts place m rule (omega (arith, e)) k
     ]
 
-timing_to : (b : Base) (n : ℕ) (ts : List Timing) (place m : ℕ) (rule : TimingRule) → m ≡ n + place → breaks_at b rule ts place ≡ true → IsAmong (OfTiming m rule) (numbered_findings b n ts)
-timing_to b n [] place m rule e h = let no : ⊥ = cc in absurd no
-timing_to b n (t ∷ ts) zero m rule e h =
+timing_to : (b : Base) (xs : List Ext) (n : ℕ) (ts : List Timing) (place m : ℕ) (rule : TimingRule) → m ≡ n + place → breaks_at b xs rule ts place ≡ true → IsAmong (OfTiming m rule) (numbered_findings b xs n ts)
+timing_to b xs n [] place m rule e h = let no : ⊥ = cc in absurd no
+timing_to b xs n (t ∷ ts) zero m rule e h =
     let same : n ≡ m = omega (arith, e) in
-    let P : ℕ → Type 0 = λ i. IsAmong (OfTiming i rule) (one_timing_findings b n t) in
-    among_left (OfTiming m rule) (one_timing_findings b n t) (numbered_findings b (n + 1) ts)
-    (subst P same (one_to b n t rule timing_rules refl (every_timing_rule rule) h))
-timing_to b n (t ∷ ts) (suc place) m rule e h =
-    among_right (OfTiming m rule) (one_timing_findings b n t) (numbered_findings b (n + 1) ts)
-    (timing_to b (n + 1) ts place m rule (omega (arith, e)) h)
+    let P : ℕ → Type 0 = λ i. IsAmong (OfTiming i rule) (one_timing_findings b xs n t) in
+    among_left (OfTiming m rule) (one_timing_findings b xs n t) (numbered_findings b xs (n + 1) ts)
+    (subst P same (one_to b xs n t rule timing_rules refl (every_timing_rule rule) h))
+timing_to b xs n (t ∷ ts) (suc place) m rule e h =
+    among_right (OfTiming m rule) (one_timing_findings b xs n t) (numbered_findings b xs (n + 1) ts)
+    (timing_to b xs (n + 1) ts place m rule (omega (arith, e)) h)
 
-numbered_once : (b : Base) (n : ℕ) (ts : List Timing) → NoneTwice (numbered_findings b n ts)
-numbered_once b n [] = tt
-numbered_once b n (t ∷ ts) =
-    none_twice_append (one_timing_findings b n t) (numbered_findings b (n + 1) ts) (one_once b n t timing_rules refl timing_rules_once) (numbered_once b (n + 1) ts)
-    (λ f h k. let same = one_number b n t f timing_rules refl h in let more = numbered_from b (n + 1) ts f k in omega (arith, same, more))
+numbered_once : (b : Base) (xs : List Ext) (n : ℕ) (ts : List Timing) → NoneTwice (numbered_findings b xs n ts)
+numbered_once b xs n [] = tt
+numbered_once b xs n (t ∷ ts) =
+    none_twice_append (one_timing_findings b xs n t) (numbered_findings b xs (n + 1) ts) (one_once b xs n t timing_rules refl timing_rules_once) (numbered_once b xs (n + 1) ts)
+    (λ f h k. let same = one_number b xs n t f timing_rules refl h in let more = numbered_from b xs (n + 1) ts f k in omega (arith, same, more))
 
 -- ---- all findings
 
 edid_listed : (o : Origin) (b : Base) (xs : List Ext) (rule : Rule) → IsAmong (Edid rule) (findings o b xs) → is_broken o rule b xs ≡ true
 edid_listed o b xs rule h =
-    elim (among_cases (Edid rule) (edid_findings o b xs) (numbered_findings b 1 (timings_of b xs)) h) [
+    elim (among_cases (Edid rule) (edid_findings o b xs) (numbered_findings b xs 1 (timings_of b xs)) h) [
       | inl k ↦ edid_from o b xs rule rules refl k
-      | inr k ↦ (let more = numbered_from b 1 (timings_of b xs) (Edid rule) k in let no : ⊥ = omega (arith, more) in absurd no)
+      | inr k ↦ (let more = numbered_from b xs 1 (timings_of b xs) (Edid rule) k in let no : ⊥ = omega (arith, more) in absurd no)
     ]
 
 -- no finding of the EDID is one of a timing
@@ -305,18 +309,18 @@ not_of_edid o b xs n rule table t h =
 
 pub law : (o : Origin) (b : Base) (xs : List Ext) → ListsTheBroken o b xs
 law o b xs = record {
-  edid = λ rule. ((λ h. edid_listed o b xs rule h), (λ broken. among_left (Edid rule) (edid_findings o b xs) (numbered_findings b 1 (timings_of b xs)) (edid_to o b xs rule rules refl (every_rule rule) broken)));
+  edid = λ rule. ((λ h. edid_listed o b xs rule h), (λ broken. among_left (Edid rule) (edid_findings o b xs) (numbered_findings b xs 1 (timings_of b xs)) (edid_to o b xs rule rules refl (every_rule rule) broken)));
   timing = λ place rule. (
-    (λ h. elim (among_cases (OfTiming (suc place) rule) (edid_findings o b xs) (numbered_findings b 1 (timings_of b xs)) h) [
+    (λ h. elim (among_cases (OfTiming (suc place) rule) (edid_findings o b xs) (numbered_findings b xs 1 (timings_of b xs)) h) [
       | inl k ↦ (let no : ⊥ = not_of_edid o b xs (suc place) rule rules refl k in absurd no)
-      | inr k ↦ timing_from b 1 (timings_of b xs) place (suc place) rule (omega arith) k
+      | inr k ↦ timing_from b xs 1 (timings_of b xs) place (suc place) rule (omega arith) k
     ]),
-    (λ broken. among_right (OfTiming (suc place) rule) (edid_findings o b xs) (numbered_findings b 1 (timings_of b xs)) (timing_to b 1 (timings_of b xs) place (suc place) rule (omega arith) broken)),
+    (λ broken. among_right (OfTiming (suc place) rule) (edid_findings o b xs) (numbered_findings b xs 1 (timings_of b xs)) (timing_to b xs 1 (timings_of b xs) place (suc place) rule (omega arith) broken)),
   );
-  from_one = λ rule h. elim (among_cases (OfTiming 0 rule) (edid_findings o b xs) (numbered_findings b 1 (timings_of b xs)) h) [
+  from_one = λ rule h. elim (among_cases (OfTiming 0 rule) (edid_findings o b xs) (numbered_findings b xs 1 (timings_of b xs)) h) [
     | inl k ↦ not_of_edid o b xs 0 rule rules refl k
-    | inr k ↦ (let more = numbered_from b 1 (timings_of b xs) (OfTiming 0 rule) k in omega (arith, more))
+    | inr k ↦ (let more = numbered_from b xs 1 (timings_of b xs) (OfTiming 0 rule) k in omega (arith, more))
   ];
-  once = none_twice_append (edid_findings o b xs) (numbered_findings b 1 (timings_of b xs)) (edid_once o b xs rules refl rules_once) (numbered_once b 1 (timings_of b xs))
-      (λ f h k. let zero_there = edid_number o b xs f rules refl h in let more = numbered_from b 1 (timings_of b xs) f k in omega (arith, zero_there, more));
+  once = none_twice_append (edid_findings o b xs) (numbered_findings b xs 1 (timings_of b xs)) (edid_once o b xs rules refl rules_once) (numbered_once b xs 1 (timings_of b xs))
+      (λ f h k. let zero_there = edid_number o b xs f rules refl h in let more = numbered_from b xs 1 (timings_of b xs) f k in omega (arith, zero_there, more));
 }

@@ -1,2 +1,2 @@
 mod AmongLemmas
-mod LawLemmas
+pub mod LawLemmas

@@ -18,21 +18,21 @@ abbrev pub rule_findings : Origin → Base → List Ext → List Rule → List F
 rule_findings o b xs rs = map Edid (filter (λ rule. is_broken o rule b xs) rs)
 
 -- those of some rules that the timing with this number breaks
-abbrev pub timing_findings : Base → ℕ → Timing → List TimingRule → List Finding
-timing_findings b number t rs = map (OfTiming number) (filter (λ rule. breaks rule b t) rs)
+abbrev pub timing_findings : Base → List Ext → ℕ → Timing → List TimingRule → List Finding
+timing_findings b xs number t rs = map (OfTiming number) (filter (λ rule. breaks rule b xs t) rs)
 
 -- of all rules
 unfoldable pub edid_findings : Origin → Base → List Ext → List Finding
 edid_findings o b xs = rule_findings o b xs rules
 
 -- of all rules for the timing with this number
-unfoldable pub one_timing_findings : Base → ℕ → Timing → List Finding
-one_timing_findings b number t = timing_findings b number t timing_rules
+unfoldable pub one_timing_findings : Base → List Ext → ℕ → Timing → List Finding
+one_timing_findings b xs number t = timing_findings b xs number t timing_rules
 
 -- of timings that are numbered from this number on
-abbrev pub numbered_findings : Base → ℕ → List Timing → List Finding
-numbered_findings b number [] = []
-numbered_findings b number (t ∷ ts) = one_timing_findings b number t ++ numbered_findings b (number + 1) ts
+abbrev pub numbered_findings : Base → List Ext → ℕ → List Timing → List Finding
+numbered_findings b xs number [] = []
+numbered_findings b xs number (t ∷ ts) = one_timing_findings b xs number t ++ numbered_findings b xs (number + 1) ts
 
 abbrev pub findings : Origin → Base → List Ext → List Finding
-findings o b xs = edid_findings o b xs ++ numbered_findings b 1 (timings_of b xs)
+findings o b xs = edid_findings o b xs ++ numbered_findings b xs 1 (timings_of b xs)

@@ -23,15 +23,15 @@ NoneTwice [] = Unit {0}
 NoneTwice (x ∷ xs) = (IsAmong x xs → ⊥) × NoneTwice xs
 
 -- a timing stands at this place, from 0, and breaks a rule
-abbrev pub breaks_at : Base → TimingRule → List Timing → ℕ → Bool
-breaks_at b rule [] place = false
-breaks_at b rule (t ∷ ts) zero = breaks rule b t
-breaks_at b rule (t ∷ ts) (suc place) = breaks_at b rule ts place
+abbrev pub breaks_at : Base → List Ext → TimingRule → List Timing → ℕ → Bool
+breaks_at b xs rule [] place = false
+breaks_at b xs rule (t ∷ ts) zero = breaks rule b xs t
+breaks_at b xs rule (t ∷ ts) (suc place) = breaks_at b xs rule ts place
 
 -- Of the rules of an EDID those are listed that it breaks, of those of a timing those that the timing with that number
 -- breaks, from 1, and nothing else.
 pub record ListsTheBroken (o : Origin) (b : Base) (xs : List Ext) : Type 0 where
   pub edid : (rule : Rule) → IsAmong (Edid rule) (findings o b xs) ↔ IsTrue (is_broken o rule b xs)
-  pub timing : (place : ℕ) (rule : TimingRule) → IsAmong (OfTiming (suc place) rule) (findings o b xs) ↔ IsTrue (breaks_at b rule (timings_of b xs) place)
+  pub timing : (place : ℕ) (rule : TimingRule) → IsAmong (OfTiming (suc place) rule) (findings o b xs) ↔ IsTrue (breaks_at b xs rule (timings_of b xs) place)
   pub from_one : (rule : TimingRule) → IsAmong (OfTiming 0 rule) (findings o b xs) → ⊥
   pub once : NoneTwice (findings o b xs)

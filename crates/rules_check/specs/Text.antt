@@ -3,12 +3,12 @@ use Rattle.std.specs.Prelude.{ℕ, Bool, true, false, List, ◌++◌, codes, fla
 use Rattle.std.specs.Fmt.{decimal}
 use Rattle.std.specs.List.{list_any}
 use Rattle.rules_check.specs.declared.rule.Rule.{Rule}
-use Rattle.rules_check.specs.declared.rule.Rule.TheVariants.{FirstTimingPreferred, PreferredTiming, ProductName, RangeLimits, LimitsAlone, LimitsOrder, Week, Srgb, NoEmptyDescriptor, UnusedStandard, BlockMap, HdmiRevision, OneSerial, Vga, VideoCodeOnce, NativeCount, NativeSize, Underscan, BasicAudio, Speakers, Padding, VideoCapability, RgbRange, TmdsClock, Address, OneHdmi, HdmiVideoCode, ForumAfterHdmi, CtaForm, CtaRevision, ExtensionTag, Block, BlockOnce, OverrideFirst, OverrideCount, MapWithinCodes, FastYcc420, YccRange, FormatsWithinLimits, FormatsNearLimits, TextForm, WeekKnown, YearKnown, SrgbGamma, InputKnown}
+use Rattle.rules_check.specs.declared.rule.Rule.TheVariants.{FirstTimingPreferred, PreferredTiming, ProductName, RangeLimits, LimitsAlone, LimitsOrder, Week, Srgb, NoEmptyDescriptor, UnusedStandard, BlockMap, HdmiRevision, OneSerial, Vga, VideoCodeOnce, NativeCount, NativeSize, Underscan, BasicAudio, Speakers, Padding, VideoCapability, RgbRange, TmdsClock, Address, OneHdmi, HdmiVideoCode, ForumAfterHdmi, CtaForm, CtaRevision, ExtensionTag, Block, BlockOnce, OverrideFirst, OverrideCount, MapWithinCodes, FastYcc420, YccRange, FormatsWithinLimits, FormatsNearLimits, FormatsCarried, TextForm, WeekKnown, YearKnown, SrgbGamma, InputKnown}
 use Rattle.rules_contents.specs.declared.contents.Slip.TheVariants as slip
 use Rattle.rules_check.specs.declared.rule.Severity.{Severity}
 use Rattle.rules_check.specs.declared.rule.Severity.TheVariants.{Fail, Warn}
 use Rattle.rules_check.specs.declared.rule.TimingRule.{TimingRule}
-use Rattle.rules_check.specs.declared.rule.TimingRule.TheVariants.{Clock, Fields, HorizontalBackPorch, VerticalBackPorch, SizeThere, SizeFits, WithinLimits, NearLimits}
+use Rattle.rules_check.specs.declared.rule.TimingRule.TheVariants.{Clock, Fields, HorizontalBackPorch, VerticalBackPorch, SizeThere, SizeFits, WithinLimits, NearLimits, Carried}
 use Rattle.rules_check.specs.declared.rule.Finding.{Finding}
 use Rattle.rules_check.specs.declared.rule.Finding.TheVariants.{Edid, Timing as OfTiming}
 
@@ -108,6 +108,7 @@ rule_name YccRange = codes "ycc-quantization"
 rule_name (Block slip.Latency) = codes "latency-order"
 rule_name FormatsWithinLimits = codes "out-of-range"
 rule_name FormatsNearLimits = codes "out-of-range"
+rule_name FormatsCarried = codes "link-clock"
 rule_name TextForm = codes "text-form"
 rule_name WeekKnown = codes "week-reserved"
 rule_name YearKnown = codes "year-late"
@@ -125,6 +126,7 @@ timing_rule_name SizeThere = codes "size-missing"
 timing_rule_name SizeFits = codes "size-differs"
 timing_rule_name WithinLimits = codes "out-of-range"
 timing_rule_name NearLimits = codes "out-of-range"
+timing_rule_name Carried = codes "link-clock"
 
 -- what is broken: a rule, or a rule by a timing
 abbrev pub finding_name : Finding → List ℕ

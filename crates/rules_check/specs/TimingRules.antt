@@ -2,13 +2,15 @@
 use Rattle.std.specs.Prelude.{◌+◌, ◌*◌, ◌==◌, Bool, ◌&&◌, ◌||◌, not, nat_lt, nat_le, List, [], ◌∷◌}
 use Rattle.edid_base.specs.declared.base.Base.{Base}
 use Rattle.edid_base.specs.declared.timing.Timing.{Timing}
+use Rattle.edid_cta.specs.declared.raw.Ext.{Ext}
+use Rattle.rules_link.specs.Offers.{is_of_hdmi, is_timing_beyond}
 use Rattle.rules_values.specs.BaseParts.{is_three}
 use Rattle.rules_rates.specs.Limits.{timing_pace, is_out_of_range}
 use Rattle.rules_check.specs.declared.rule.TimingRule.{TimingRule}
-use Rattle.rules_check.specs.declared.rule.TimingRule.TheVariants.{Clock, Fields, HorizontalBackPorch, VerticalBackPorch, SizeThere, SizeFits, WithinLimits, NearLimits}
+use Rattle.rules_check.specs.declared.rule.TimingRule.TheVariants.{Clock, Fields, HorizontalBackPorch, VerticalBackPorch, SizeThere, SizeFits, WithinLimits, NearLimits, Carried}
 
 abbrev pub timing_rules : List TimingRule
-timing_rules = Clock ∷ Fields ∷ HorizontalBackPorch ∷ VerticalBackPorch ∷ SizeThere ∷ SizeFits ∷ WithinLimits ∷ NearLimits ∷ []
+timing_rules = Clock ∷ Fields ∷ HorizontalBackPorch ∷ VerticalBackPorch ∷ SizeThere ∷ SizeFits ∷ WithinLimits ∷ NearLimits ∷ Carried ∷ []
 
 -- a field that no picture can do without is 0; an interlaced one can do without a vertical sync offset
 abbrev pub has_zero : Timing → Bool
@@ -26,16 +28,18 @@ differs b t =
     nat_lt (b.width * 10 + 9) t.width || nat_lt (b.height * 10 + 9) t.height ||
     (nat_lt (t.width + 9) (b.width * 10) && nat_lt (t.height + 9) (b.height * 10))
 
-abbrev pub breaks : TimingRule → Base → Timing → Bool
+abbrev pub breaks : TimingRule → Base → List Ext → Timing → Bool
 -- at least 10 MHz, in units of 10 kHz (own)
-breaks Clock b t = nat_lt t.clock 1000
-breaks Fields b t = has_zero t
+breaks Clock b xs t = nat_lt t.clock 1000
+breaks Fields b xs t = has_zero t
 -- some of the blanking is left after the sync and both borders
-breaks HorizontalBackPorch b t = nat_le t.horizontal_blanking (t.horizontal_sync_offset + t.horizontal_sync_width + 2 * t.horizontal_border)
-breaks VerticalBackPorch b t = nat_le t.vertical_blanking (t.vertical_sync_offset + t.vertical_sync_width + 2 * t.vertical_border)
-breaks SizeThere b t = has_size b && ((t.width == 0) || (t.height == 0))
-breaks SizeFits b t = has_size b && (nat_lt 0 t.width || nat_lt 0 t.height) && differs b t
+breaks HorizontalBackPorch b xs t = nat_le t.horizontal_blanking (t.horizontal_sync_offset + t.horizontal_sync_width + 2 * t.horizontal_border)
+breaks VerticalBackPorch b xs t = nat_le t.vertical_blanking (t.vertical_sync_offset + t.vertical_sync_width + 2 * t.vertical_border)
+breaks SizeThere b xs t = has_size b && ((t.width == 0) || (t.height == 0))
+breaks SizeFits b xs t = has_size b && (nat_lt 0 t.width || nat_lt 0 t.height) && differs b t
 -- a display of 1.3 shows no timing outside its limits (section 3.10.3.3)
-breaks WithinLimits b t = is_three b.revision && is_out_of_range b (timing_pace t)
+breaks WithinLimits b xs t = is_three b.revision && is_out_of_range b (timing_pace t)
 -- in 1.4 a timing that is told in full holds whatever the limits are (E-EDID 1.4, section 3.10.3.3)
-breaks NearLimits b t = not (is_three b.revision) && is_out_of_range b (timing_pace t)
+breaks NearLimits b xs t = not (is_three b.revision) && is_out_of_range b (timing_pace t)
+-- it has room on the link (HDMI 1.4b, section 8.3.2; HDMI 2.1, section 10.3.2)
+breaks Carried b xs t = is_of_hdmi b && is_timing_beyond xs t

@@ -14,6 +14,7 @@ use rules_contents::{
     is_late_year, is_override, is_reserved_week, some_fixed_ycc, some_ill_text,
     some_other_revision, some_overrun, some_repeated, some_slip, some_unknown,
 };
+use rules_link::{has_code_beyond, is_of_hdmi, is_timing_beyond};
 use rules_native::has_mixed_natives;
 use rules_rates::{
     has_format_outside, has_reversed_limits, is_out_of_range, some_past, some_slow, timing_pace,
@@ -26,15 +27,15 @@ use rules_values::{
     timings_of, video_codes,
 };
 
-/// The most findings of an EDID: 56 rules, and eight for each of 22 timings.
-pub const MAX_FINDINGS: usize = 232;
+/// The most findings of an EDID: 57 rules, and nine for each of 22 timings.
+pub const MAX_FINDINGS: usize = 255;
 /// The least pixel clock of a timing: 10 MHz, in units of 10 kHz.
 const MIN_CLOCK: u16 = 1000;
 /// How much larger or smaller than the display an image may be, in millimetres.
 const SIZE_TOLERANCE: u16 = 9;
 
 /// All rules, in the order in which they are looked at.
-const RULES: [Rule; 56] = [
+const RULES: [Rule; 57] = [
     Rule::FirstTimingPreferred,
     Rule::PreferredTiming,
     Rule::ProductName,
@@ -84,6 +85,7 @@ const RULES: [Rule; 56] = [
     Rule::Block(Slip::Latency),
     Rule::FormatsWithinLimits,
     Rule::FormatsNearLimits,
+    Rule::FormatsCarried,
     Rule::TextForm,
     Rule::WeekKnown,
     Rule::YearKnown,
@@ -93,7 +95,7 @@ const RULES: [Rule; 56] = [
     Rule::Block(Slip::Bytes),
 ];
 
-const TIMING_RULES: [TimingRule; 8] = [
+const TIMING_RULES: [TimingRule; 9] = [
     TimingRule::Clock,
     TimingRule::Fields,
     TimingRule::HorizontalBackPorch,
@@ -102,6 +104,7 @@ const TIMING_RULES: [TimingRule; 8] = [
     TimingRule::SizeFits,
     TimingRule::WithinLimits,
     TimingRule::NearLimits,
+    TimingRule::Carried,
 ];
 
 /// Whether an HDMI block has an address that no EDID of this origin has.
@@ -206,6 +209,7 @@ fn is_broken(origin: Origin, rule: Rule, base: &Base, extensions: &[Ext]) -> boo
         Rule::FormatsWithinLimits => is_three(base.revision)
             && has_format_outside(base, extensions),
         Rule::FormatsNearLimits => !is_three(base.revision) && has_format_outside(base, extensions),
+        Rule::FormatsCarried => is_of_hdmi(base) && has_code_beyond(extensions),
         Rule::TextForm => some_ill_text(base),
         Rule::WeekKnown => is_reserved_week(base),
         Rule::YearKnown => is_late_year(base),
@@ -243,8 +247,8 @@ fn differs(base: &Base, timing: &Timing) -> bool
 }
 
 /// Whether a detailed timing breaks a rule.
-fn breaks(rule: TimingRule, base: &Base, timing: &Timing) -> bool
-    ensures { result ≡ breaks rule base.now timing.now }
+fn breaks(rule: TimingRule, base: &Base, extensions: &[Ext], timing: &Timing) -> bool
+    ensures { result ≡ breaks rule base.now extensions.now timing.now }
 {
     match rule {
         TimingRule::Clock => timing.clock < MIN_CLOCK,
@@ -269,6 +273,7 @@ fn breaks(rule: TimingRule, base: &Base, timing: &Timing) -> bool
             && is_out_of_range(base, timing_pace(timing)),
         TimingRule::NearLimits => !is_three(base.revision)
             && is_out_of_range(base, timing_pace(timing)),
+        TimingRule::Carried => is_of_hdmi(base) && is_timing_beyond(extensions, timing),
     }
 }
 
@@ -298,18 +303,19 @@ fn add_timing_rules(
     found: &mut ArrayVec<Finding, MAX_FINDINGS>,
     rules: &[TimingRule],
     base: &Base,
+    extensions: &[Ext],
     number: u8,
     timing: &Timing,
 )
     requires { array_vec_len found.old + length rules.now ≤ MAX_FINDINGS }
-    ensures items { found.new.items ≡ found.old.items ++ timing_findings base.now number timing.now rules.now }
+    ensures items { found.new.items ≡ found.old.items ++ timing_findings base.now extensions.now number timing.now rules.now }
     ensures len { array_vec_len found.new ≤ array_vec_len found.old + length rules.now }
 {
     if let [rule, rest @ ..] = rules {
-        if breaks(*rule, base, timing) {
+        if breaks(*rule, base, extensions, timing) {
             found.push(Finding::Timing(number, *rule));
         }
-        add_timing_rules(found, rest, base, number, timing);
+        add_timing_rules(found, rest, base, extensions, number, timing);
     }
 }
 
@@ -322,37 +328,44 @@ fn add_edid(
     extensions: &[Ext],
 )
     requires few { length extensions.now ≤ 3 }
-    requires room { array_vec_len found.old + 56 ≤ MAX_FINDINGS }
+    requires room { array_vec_len found.old + 57 ≤ MAX_FINDINGS }
     ensures items { found.new.items ≡ found.old.items ++ edid_findings origin base.now extensions.now }
-    ensures len { array_vec_len found.new ≤ array_vec_len found.old + 56 }
+    ensures len { array_vec_len found.new ≤ array_vec_len found.old + 57 }
 {
     add_rules(found, &RULES, origin, base, extensions);
 }
 
 /// Adds the rules that a timing breaks.
 #[tactic(auto, unfolding(crate::specs::Findings::one_timing_findings))]
-fn add_timing(found: &mut ArrayVec<Finding, MAX_FINDINGS>, base: &Base, number: u8, timing: &Timing)
-    requires { array_vec_len found.old + 8 ≤ MAX_FINDINGS }
-    ensures items { found.new.items ≡ found.old.items ++ one_timing_findings base.now number timing.now }
-    ensures len { array_vec_len found.new ≤ array_vec_len found.old + 8 }
+fn add_timing(
+    found: &mut ArrayVec<Finding, MAX_FINDINGS>,
+    base: &Base,
+    extensions: &[Ext],
+    number: u8,
+    timing: &Timing,
+)
+    requires { array_vec_len found.old + 9 ≤ MAX_FINDINGS }
+    ensures items { found.new.items ≡ found.old.items ++ one_timing_findings base.now extensions.now number timing.now }
+    ensures len { array_vec_len found.new ≤ array_vec_len found.old + 9 }
 {
-    add_timing_rules(found, &TIMING_RULES, base, number, timing);
+    add_timing_rules(found, &TIMING_RULES, base, extensions, number, timing);
 }
 
 /// Adds the rules that timings break, which are numbered from a number on.
 fn add_timings(
     found: &mut ArrayVec<Finding, MAX_FINDINGS>,
     base: &Base,
+    extensions: &[Ext],
     number: u8,
     timings: &[Timing],
 )
-    requires room { array_vec_len found.old + 8 * length timings.now ≤ MAX_FINDINGS }
+    requires room { array_vec_len found.old + 9 * length timings.now ≤ MAX_FINDINGS }
     requires small { number + length timings.now < 256 }
-    ensures items { found.new.items ≡ found.old.items ++ numbered_findings base.now number timings.now }
+    ensures items { found.new.items ≡ found.old.items ++ numbered_findings base.now extensions.now number timings.now }
 {
     if let [timing, rest @ ..] = timings {
-        add_timing(found, base, number, timing);
-        add_timings(found, base, number + 1, rest);
+        add_timing(found, base, extensions, number, timing);
+        add_timings(found, base, extensions, number + 1, rest);
     }
 }
 
@@ -365,6 +378,6 @@ pub fn check(origin: Origin, base: &Base, extensions: &[Ext]) -> ArrayVec<Findin
     let mut found = ArrayVec::new();
     let timings = timings_of(base, extensions);
     add_edid(&mut found, origin, base, extensions);
-    add_timings(&mut found, base, 1, timings.as_slice());
+    add_timings(&mut found, base, extensions, 1, timings.as_slice());
     found
 }

@@ -84,6 +84,8 @@ pub enum Rule {
     FormatsWithinLimits,
     /// Video codes, established and standard timings are within the range limits of revision 4.
     FormatsNearLimits,
+    /// The link carries the formats of video codes.
+    FormatsCarried,
     /// A name, a text and a serial number have the form of a text.
     TextForm,
     /// The week is one of a year.
@@ -115,6 +117,8 @@ pub enum TimingRule {
     WithinLimits,
     /// Its rates are within the range limits of revision 4.
     NearLimits,
+    /// The link carries it.
+    Carried,
 }
 
 /// Whose EDID is looked at.

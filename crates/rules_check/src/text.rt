@@ -14,7 +14,7 @@ use text_core::{Sink, WriteFault, put_all};
 /// The bytes that the longest line has room in.
 const LINE: usize = 40;
 /// The bytes that the lines of all findings have room in: a `LINE` for each.
-const TEXT: usize = 9280;
+const TEXT: usize = 10_200;
 
 fn rule_severity(rule: Rule) -> Severity
     ensures { result ≡ rule_severity rule }
@@ -129,6 +129,7 @@ pub fn rule_name(rule: Rule) -> &'static str
         Rule::Block(Slip::Latency) => "latency-order",
         Rule::FormatsWithinLimits => "out-of-range",
         Rule::FormatsNearLimits => "out-of-range",
+        Rule::FormatsCarried => "link-clock",
         Rule::TextForm => "text-form",
         Rule::WeekKnown => "week-reserved",
         Rule::YearKnown => "year-late",
@@ -152,6 +153,7 @@ pub fn timing_rule_name(rule: TimingRule) -> &'static str
         TimingRule::SizeThere => "size-missing",
         TimingRule::SizeFits => "size-differs",
         TimingRule::WithinLimits | TimingRule::NearLimits => "out-of-range",
+        TimingRule::Carried => "link-clock",
     }
 }
 

@@ -132,7 +132,7 @@ are_late (Some l) interlaced = is_late l.video l.audio || has_late interlaced
 abbrev pub has_late_sound : DataBlock → Bool
 has_late_sound b = is_hdmi b && are_late (hdmi_of b).latencies (hdmi_of b).interlaced_latencies
 
--- ---- reserved values and lengths of any block that has a table (the clauses are those of the tables of edid_blocks)
+-- ---- reserved values and lengths of any block that has a table (the clauses are those of the tables of edid_tables)
 
 -- a rule of its own names the reserved value
 abbrev pub is_named_reserved : DataBlock → Bool

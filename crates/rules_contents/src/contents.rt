@@ -93,7 +93,8 @@ pub fn has_extended_tag(tag: u8, block: &DataBlock) -> bool
     matches!(block.kind, BlockKind::Extended) && 0 < payload.len() && payload[0] == tag
 }
 
-fn is_forum_block(block: &DataBlock) -> bool
+/// Whether it is a vendor block of the HDMI Forum, or its block of sink capabilities.
+pub fn is_forum_block(block: &DataBlock) -> bool
     ensures { result ≡ is_forum_block block.now }
 {
     is_forum(block) || has_extended_tag(SINK_CAPABILITY, block)
@@ -201,7 +202,7 @@ fn has_reserved_hdmi(block: &DataBlock) -> bool
 }
 
 /// What the HDMI Forum's capabilities say, from the version on.
-fn forum_of(block: &DataBlock) -> ForumBlock
+pub fn forum_of(block: &DataBlock) -> ForumBlock
     ensures { result ≡ forum_of block.now }
 {
     ForumBlock::of(after(block.payload.as_slice(), VERSION))

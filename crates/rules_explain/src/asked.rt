@@ -149,6 +149,9 @@ fn asked_of_extensions(rule: Rule) -> &'static str {
         Rule::FormatsNearLimits => {
             "video codes, established and standard timings are within the range limits; in 1.4 they may be outside (E-EDID 1.4, 3.10.3.3)"
         }
+        Rule::FormatsCarried => {
+            "the link carries each video code: its clock, halved in 4:2:0 alone, is at most that of the HDMI and HDMI Forum blocks, 165 MHz where none is given, or it fits their fixed rate link (HDMI 1.4, 8.3.2; HDMI 2.1, 10.3.2)"
+        }
         Rule::TextForm => {
             "a name, a text and a serial number are printable characters, with a line feed and spaces after fewer than 13 (E-EDID A, 3.10.3)"
         }
@@ -194,6 +197,9 @@ fn asked_of_timing(rule: TimingRule) -> &'static str {
         }
         TimingRule::NearLimits => {
             "the field rate, the line rate and the pixel clock are within the range limits; in 1.4 a timing may be outside (E-EDID 1.4, 3.10.3.3)"
+        }
+        TimingRule::Carried => {
+            "the link carries the timing: its clock is at most that of the HDMI and HDMI Forum blocks, 165 MHz where none is given, or it fits their fixed rate link (HDMI 1.4, 8.3.2; HDMI 2.1, 10.3.2)"
         }
     }
 }

@@ -9,6 +9,7 @@ mod explanation;
 mod formats;
 mod hints;
 mod limits;
+mod links;
 mod places;
 mod values;
 

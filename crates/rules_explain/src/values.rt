@@ -7,6 +7,7 @@ use crate::blocks::{
 };
 use crate::formats::{format_reported, map_reported, range_reported, slow_reported};
 use crate::limits::pace_reported;
+use crate::links::{code_reported, load_reported};
 use crate::places::{
     capability_reported, empty_reported, ill_text_reported, padding_reported, speakers_reported,
     tmds_reported, unused_reported,
@@ -14,6 +15,7 @@ use crate::places::{
 use edid_base::{Base, Descriptor, Timing};
 use edid_cta::{Ext, hdmi_address};
 use rules_check::{Finding, Rule, TimingRule};
+use rules_link::timing_load;
 use rules_native::{Picture, differs, native_pictures};
 use rules_rates::{field_span, line_span, timing_pace};
 use rules_values::{hdmi_count, native_count, timings_of, video_codes};
@@ -181,6 +183,7 @@ fn reported_of_edid(
         Rule::FormatsWithinLimits | Rule::FormatsNearLimits => {
             format_reported(alloc, base, extensions)
         }
+        Rule::FormatsCarried => code_reported(alloc, extensions),
         Rule::TextForm => ill_text_reported(alloc, base),
         Rule::YearKnown => {
             let year = base.year;
@@ -267,6 +270,7 @@ fn reported_of_timing(
     alloc: Global,
     rule: TimingRule,
     base: &Base,
+    extensions: &[Ext],
     timing: &Timing,
 ) -> Result<Option<String>, AllocError> {
     match rule {
@@ -292,6 +296,7 @@ fn reported_of_timing(
         TimingRule::WithinLimits | TimingRule::NearLimits => {
             Ok(Some(pace_reported(alloc, base, timing_pace(timing))?))
         }
+        TimingRule::Carried => Ok(Some(load_reported(alloc, extensions, timing_load(timing))?)),
     }
 }
 
@@ -310,7 +315,7 @@ pub fn values(
             let timings = timings_of(base, extensions);
             match timings.get(usize::from(number.saturating_sub(1))) {
                 None => Ok(None),
-                Some(timing) => reported_of_timing(alloc, rule, base, timing),
+                Some(timing) => reported_of_timing(alloc, rule, base, extensions, timing),
             }
         }
     }

@@ -16,7 +16,7 @@ pub use limits::{
     CLOCK_UNIT, HALF_LINE_CLOCK, field_span, has_reversed_limits, is_clock_above, is_out_of_range,
     is_outside, is_over, line_span, timing_pace,
 };
-pub use maps::{has_past, has_slow, is_slow, some_past, some_slow};
+pub use maps::{has_past, has_slow, is_marked, is_slow, some_past, some_slow};
 pub use pace::Pace;
 pub use paces::{CodePace, pace_of};
 pub use span::RateSpan;

@@ -85,7 +85,8 @@ pub fn is_slow(code: u8) -> bool
     is_slower(pace_of(code))
 }
 
-fn is_marked(bytes: &[u8], place: usize) -> bool
+/// Whether a map marks the code at a place.
+pub fn is_marked(bytes: &[u8], place: usize) -> bool
     ensures { result ≡ is_marked bytes.now place }
 {
     place / 8 < bytes.len() && bytes[place / 8] / weight(place % 8) % 2 == 1

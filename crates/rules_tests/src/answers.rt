@@ -2,6 +2,7 @@
 use crate::contents::{BLOCKS, EXTENSIONS, MAPS, VALUES};
 use crate::displays::bytes_of;
 use crate::explains::{EXPLAINED, HINTED, explained, hinted};
+use crate::links::LINKS;
 use crate::rules::{IN_PORTS, NATIVES, RULES};
 use crate::timings::{ESTABLISHED, TIMINGS};
 use crate::ways::{
@@ -60,6 +61,7 @@ fn each_rule_is_broken_alone_and_just_kept(rt: HostRuntime) {
     are_checked(&rt, BLOCKS);
     are_checked(&rt, MAPS);
     are_checked(&rt, VALUES);
+    are_checked(&rt, LINKS);
 }
 
 /// The answer that is wanted: in place of bytes in hex, words give them.

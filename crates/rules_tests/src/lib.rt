@@ -10,6 +10,8 @@ mod displays;
 #[cfg(test)]
 mod explains;
 #[cfg(test)]
+mod links;
+#[cfg(test)]
 mod records;
 #[cfg(test)]
 mod rules;

@@ -72,8 +72,8 @@ tv 135=04 => fail vic-twice;
 tv 133=10 135=90 => fail vic-twice;
 tv 135=10 => fail vic-twice;
 tv 135=05 => none
-tv 113=0000000000 134=c1 135=41 => none
-tv 113=0000000000 134=c0 135=40 => fail vic-twice;
+tv 113=0000000000 134=c1 135=41 => fail link-clock;
+tv 113=0000000000 134=c0 135=40 => fail vic-twice;fail link-clock;
 tv 134=80 135=00 => warn reserved;
 tv 134=00 135=00 => warn reserved;
 tv 134=80 135=80 => fail vic-twice;warn reserved;
@@ -132,16 +132,16 @@ tv 149=0100 => fail address;
 tv 149=0001 => fail address;
 tv 130=20 154=65030c001000 => warn hdmi-twice;
 tv 130=20 154=65030c010000 => none
-tv 130=20 145=6b030c001000b82d20002001e200cf => fail hdmi-vic-without-vic;
-tv 113=0000000000 130=20 145=6b030c001000b82d20002001e200cf 135=5f => none
+tv 130=20 145=6b030c001000b82d20002001e200cf => fail hdmi-vic-without-vic;fail link-clock;
+tv 113=0000000000 130=20 145=6b030c001000b82d20002001e200cf 135=5f => fail link-clock;
 tv 130=20 145=6b030c001000b82d20000001e200cf => warn reserved;
 tv 130=20 145=6b030c001000b82d00002001e200cf => warn reserved;
-tv 113=0000000000 130=21 145=6c030c001000b82d2000400201e200cf 135=5e => fail hdmi-vic-without-vic;
-tv 113=0000000000 130=21 145=6c030c001000b82d2000400201e200cf 135=5e 134=5f => none
-tv 130=22 145=6d030c001000b82da00000002004e200cf => fail hdmi-vic-without-vic;
-tv 113=0000000000 130=22 145=6d030c001000b82da00000002004e200cf 135=62 => none
-tv 130=24 145=6f030c001000b82de000000000002003e200cf => fail hdmi-vic-without-vic;
-tv 113=0000000000 130=24 145=6f030c001000b82de000000000002003e200cf 135=5d => none
+tv 113=0000000000 130=21 145=6c030c001000b82d2000400201e200cf 135=5e => fail hdmi-vic-without-vic;fail link-clock;
+tv 113=0000000000 130=21 145=6c030c001000b82d2000400201e200cf 135=5e 134=5f => fail link-clock;
+tv 130=22 145=6d030c001000b82da00000002004e200cf => fail hdmi-vic-without-vic;fail link-clock;
+tv 113=0000000000 130=22 145=6d030c001000b82da00000002004e200cf 135=62 => fail link-clock;
+tv 130=24 145=6f030c001000b82de000000000002003e200cf => fail hdmi-vic-without-vic;fail link-clock;
+tv 113=0000000000 130=24 145=6f030c001000b82de000000000002003e200cf 135=5d => fail link-clock;
 tv 130=22 145=67d85dc40178000065030c000000e200cf => fail hdmi-forum-first;
 tv 130=22 145=65030c00000067d85dc401780000e200cf => none
 tv 130=22 145=67d85dc50178000065030c000000e200cf => none
@@ -157,8 +157,8 @@ tv 131=f0 134=84 => fail native-mixed;
 tv 131=f0 133=10 134=84 => none
 tv 131=f0 133=10 => none
 tv 134=9f => none
-tv 113=0000000000 134=c0 => none
-tv 113=0000000000 134=c1 => none
+tv 113=0000000000 134=c0 => fail link-clock;
+tv 113=0000000000 134=c1 => fail link-clock;
 tv 136=81 => fail native-mixed;
 tv 134=80 => warn reserved;
 tv 134=85 => none

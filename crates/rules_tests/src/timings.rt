@@ -41,8 +41,8 @@ tv 115=20 => none
 tv 115=21 => fail out-of-range;
 tv 115=2d => fail out-of-range;
 tv 115=2e => fail out-of-range;fail timing 2 out-of-range;
-tv 114=78 116=ff 117=ff 136=76 => none
-tv 114=78 116=fe 117=ff 136=76 => fail out-of-range;
+tv 114=78 116=ff 117=ff 136=76 => fail link-clock;
+tv 114=78 116=fe 117=ff 136=76 => fail out-of-range;fail link-clock;
 tv 19=04 146=04 118=01 114=78 116=ff 117=ff 136=76 => warn out-of-range;
 tv 54=383180a020e02d10 131=f0 114=ff 116=ff 117=ff => none
 tv 54=383180a020e02d10 131=f0 114=fe 116=ff 117=ff => fail timing 1 out-of-range;
