@@ -160,7 +160,9 @@ def rows_of_constants(tree):
         source = read(path) if os.path.exists(path) else ''
         found = re.search(r'\n *pub(?:\(\w+\))? const %s:[^=]*=(.*?);\n' % re.escape(name), source, re.S)
         if found:
-            yield from rows_of('%s/%s.rt' % (crate, module), found[1].split('\n'), source.count('\n', 0, found.start(1)) + 1)
+            # (the name of a place of a form stands for a word, and is none)
+            rows = [re.sub(r'Slot::(?!Word\b)\w+, "[^"]*"', '', line) for line in found[1].split('\n')]
+            yield from rows_of('%s/%s.rt' % (crate, module), rows, source.count('\n', 0, found.start(1)) + 1)
 
 
 # The files of edid_tables that have the tables of data blocks.
