@@ -219,14 +219,7 @@ fn said_of(
         said: &said,
     };
     let mut out = Buffered::new(Writes::new(Told { said: &said, room }));
-    let end = follow(
-        form,
-        signal,
-        Form::Text,
-        how,
-        &mut driver,
-        &mut out,
-    );
+    let end = follow(form, signal, Form::Text, how, &mut driver, &mut out);
     drop(out);
     drop(driver);
     with_end(rt, said.into_inner(), end_text(rt, &end))

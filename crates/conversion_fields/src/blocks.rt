@@ -12,10 +12,9 @@ ghost use Rattle.conversion_fields.specs.Parts.{part_text, parts_text};
 ghost use Rattle.conversion_fields.specs.Said.{all_said, end_in, front_said};
 
 use crate::objects::{Lengths, add_bytes, add_fields, add_part};
-use edid_tables::{layout_of, parts_of};
 use edid_cta::DataBlock;
 use edid_fields::{Part, Place, cut_of, left_of, walk};
-use edid_tables::{Frame, block_name, frame_parts, front_frame};
+use edid_tables::{Frame, block_name, frame_parts, front_frame, layout_of, parts_of};
 use text_core::{Counted, Sink};
 
 /// The bytes after some.

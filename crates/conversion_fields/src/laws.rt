@@ -14,10 +14,9 @@ ghost use Rattle.edid_fields.specs.Tiling.{count};
 use crate::blocks::{after, body_of, body_parts, front_parts, head_of};
 use crate::whole::{CHECKSUM, CTA_FRONT, before, section_of};
 use edid_base::{Base, Timing, write_base};
-use edid_tables::{BASE, Section, section_parts};
 use edid_cta::{DataBlock, Ext, write_ext};
 use edid_fields::every_bit_stands_once;
-use edid_tables::{Frame, frame_parts};
+use edid_tables::{BASE, Frame, Section, frame_parts, section_parts};
 
 /// Each bit of a data block, from wherever it begins, stands in one field, in order.
 pub fn block_bits_stand_once(block: &DataBlock)

@@ -10,9 +10,9 @@ ghost use Rattle.conversion_fields.specs.Whole.{are_short, base_parts, content_p
 use crate::blocks::{add_all, add_blocks, after, end_of};
 use crate::objects::{Lengths, add_bytes, add_part};
 use edid_base::{Base, Timing, write_base};
-use edid_tables::{BASE, Section, descriptor_section, section_name, section_parts};
 use edid_cta::{Cta, Ext, write_ext};
 use edid_fields::{cut_of, left_of};
+use edid_tables::{BASE, Section, descriptor_section, section_name, section_parts};
 use text_core::{Counted, Sink};
 
 /// The first bytes of an extension of CTA-861, before its data blocks.

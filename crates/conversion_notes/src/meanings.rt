@@ -9,11 +9,11 @@ use edid_base::{Base, append};
 use edid_cta::BlockKind;
 use edid_text_lines::{Fields, Keyword, Line};
 use meaning_base::{
-    append_chroma, append_established, append_ext, append_features, append_gamma, append_input,
-    append_made, append_range, append_raw, append_size, append_standard,
+    append_chroma, append_descriptor, append_established, append_ext, append_features,
+    append_gamma, append_input, append_made, append_range, append_raw, append_size,
+    append_standard,
 };
 use meaning_cta::{append_audio, append_flags, append_hdmi, append_speakers};
-use meaning_base::append_descriptor;
 use meaning_displayid::append_displayid;
 use meaning_extended::{append_extended, append_vendor};
 use meaning_words::{Page, append_timing, append_video, byte_at};

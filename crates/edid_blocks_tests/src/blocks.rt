@@ -1,6 +1,6 @@
 //! Reserved bits and lengths.
-use edid_tables::{cut_of, has_reserved, left_of};
 use edid_cta::{DataBlock, Ext, read_ext};
+use edid_tables::{cut_of, has_reserved, left_of};
 use std::process::Abort;
 
 /// An extension with one data block, of a tag, 0 to 7, and the first 31 bytes of a payload.

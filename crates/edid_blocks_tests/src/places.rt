@@ -1,7 +1,7 @@
 //! Where fields stand, and what they say.
 use crate::blocks::{block_of, parsed};
-use edid_tables::{body_of, layout_of, parts_of};
 use edid_fields::{walk, word_of};
+use edid_tables::{body_of, layout_of, parts_of};
 use std::process::Abort;
 
 /// A block and its fields: first bit and width, name, value, and what it says.

@@ -5,11 +5,11 @@ use crate::{abilities, displays, videos};
 use arrayvec::ArrayVec;
 use edid_base::Revision;
 use meaning_base::{
-    append_chroma, append_established, append_ext, append_features, append_gamma, append_input,
-    append_made, append_range, append_raw, append_size, append_standard,
+    append_chroma, append_descriptor, append_established, append_ext, append_features,
+    append_gamma, append_input, append_made, append_range, append_raw, append_size,
+    append_standard,
 };
 use meaning_cta::{append_audio, append_flags, append_hdmi, append_speakers};
-use meaning_base::append_descriptor;
 use meaning_words::{Page, append_timing, append_video};
 use std::process::Abort;
 

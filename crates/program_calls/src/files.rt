@@ -4,8 +4,7 @@ ghost use Rattle.program_input.specs.Read.{IsAllOf};
 ghost use Rattle.program_input.specs.Source.{known_joined};
 
 use crate::fault::ProgramFault;
-use program_input::read_input;
-use program_input::Opens;
+use program_input::{Opens, read_input};
 use std::alloc::Global;
 
 /// The first of some files that was not read, and why.

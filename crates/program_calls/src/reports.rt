@@ -19,8 +19,7 @@ use crate::progress::ProgressLines;
 use crate::said::{remark, report};
 use crate::status::write_fault;
 use json_report::ReportKind;
-use program_input::limit_of;
-use program_input::Opens;
+use program_input::{Opens, limit_of};
 use std::alloc::AllocError;
 use text_core::{
     Buffered, Counted, Held, Piece, Sink, TextOfLine, WriteFault, put_all, write_lines,

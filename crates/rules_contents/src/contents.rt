@@ -3,9 +3,9 @@ ghost use Rattle.std.specs.Prelude.{◌≡◌, slice_index};
 ghost use Rattle.std.specs.List.{list_any};
 ghost use Rattle.rules_contents.specs.Contents.{has_extended_tag, is_forum_block, is_of_sort, least_length, has_ill_length, lists_format_zero, has_format_zero, has_reserved_hdr, is_reserved_code, has_reserved_code, is_reserved_hdmi, has_reserved_hdmi, forum_of, is_ill_clock, has_ill_clock, lacks_scdc, are_ill_rates, has_ill_rates, comes_after, is_late, has_late, are_late, has_late_sound, is_named_reserved, has_other_reserved, has_other_length, has_slip};
 
-use edid_tables::{cut_of, has_reserved, left_of};
 use edid_cta::{BlockKind, DataBlock};
 use edid_layout::{Delay, ForumBlock, Latencies};
+use edid_tables::{cut_of, has_reserved, left_of};
 use rules_values::{hdmi_codes, hdmi_of, is_forum, is_speakers};
 use text_core::after;
 

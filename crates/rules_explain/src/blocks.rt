@@ -1,7 +1,7 @@
 //! Extensions and data blocks at fault.
-use edid_tables::{body_of, layout_of, left_of, parts_of};
 use edid_cta::{BlockKind, DataBlock, Ext};
 use edid_fields::{is_reserved, walk};
+use edid_tables::{body_of, layout_of, left_of, parts_of};
 use rules_check::Rule;
 use rules_contents::{
     SORTS, Slip, Sort, count_of_sort, has_slip, is_override, some_other_revision, some_overrun,
