@@ -1,7 +1,6 @@
 -- The readings of a capture are those that are heard.
 use Rattle.std.proofs.Common.{◌≡◌, map, List, [], ◌∷◌, refl, ap}
 use Rattle.line_reading.specs.Readings.{Listed}
-use Rattle.audit_notes.specs.Lines.{AuditLine}
 use Rattle.audit_notes.specs.Lines.AuditLine.{Reading}
 use Rattle.expect_judge.specs.Told.{RoundLine}
 use Rattle.audit_expect.specs.Heard.{rounds_of}

@@ -1,10 +1,7 @@
 -- No line of the expectations of a capture speaks of a state.
 use Rattle.std.proofs.Common.{◌≡◌, ℕ, Bool, true, false, List, [], ◌∷◌, map, refl, ap, ◌∙◌}
 use Rattle.text_core.specs.Lines.{lines_of}
-use Rattle.expect_judge.specs.Told.{EventLine, RoundLine, Told, event_as, kept_as, round_as}
-use Rattle.expect_judge.specs.declared.kept.KeptRound.{KeptRound}
-use Rattle.expect_judge.specs.declared.lines.EventLine.{EventLine as EventRead}
-use Rattle.expect_judge.specs.declared.lines.RoundLine.{RoundLine as RoundRead}
+use Rattle.expect_judge.specs.Told.{Told}
 use Rattle.expect_judge.specs.Judged.{first_state, is_of_state, later_states, states_for}
 use Rattle.expect_run.specs.Report.{Report, tests}
 use Rattle.audit_expect.specs.Marks.{no_states}
@@ -23,14 +20,6 @@ no_states_for (line ∷ lines) =
     ap (λ (state : List ℕ). state ∷ states_for lines (later_states (is_of_state line) [])) (no_first (is_of_state line))
     ∙ ap (λ (states : List (List ℕ)). [] ∷ states_for lines states) (none_later (is_of_state line))
     ∙ ap (λ (states : List (List ℕ)). [] ∷ states) (no_states_for lines)
-
--- what is told, as it is lent
-pub told_is : (told : Told) (kept first : List KeptRound) (rounds second : List RoundRead) (events third : List EventRead) → map kept_as kept ≡ told.rounds → first ≡ kept → map round_as rounds ≡ map kept_as first → second ≡ rounds
-    → map event_as events ≡ told.events → third ≡ events → ◌≡◌ {A = Told} (record { rounds = map round_as second; events = map event_as third }) told
-told_is told kept first rounds second events third all lent are again these shown = λ i. record {
-  rounds = (ap (map round_as) again ∙ are ∙ ap (map kept_as) lent ∙ all) i;
-  events = (ap (map event_as) shown ∙ these) i;
-}
 
 pub stateless : (script : List ℕ) (told told_so : Told) (r : Report) → told ≡ told_so → r ≡ tests script told (states_for (lines_of script) []) → r ≡ tests script told_so (no_states script)
 stateless script told told_so r same is = is ∙ ap (λ (t : Told). tests script t (states_for (lines_of script) [])) same ∙ ap (tests script told_so) (no_states_for (lines_of script))

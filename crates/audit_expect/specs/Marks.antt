@@ -1,6 +1,5 @@
 -- What is judged of a capture (own): an event for each instant with a name, and a round for each reading.
 use Rattle.std.specs.Prelude.{ℕ, ◌+◌, map, List, [], ◌∷◌, ◌++◌, Option, Some, None}
-use Rattle.std.specs.List.{flat_map}
 use Rattle.text_core.specs.Lines.{lines_of}
 use Rattle.line_reading.specs.Readings.{Listed}
 use Rattle.capture_core.specs.Edges.{Captured}

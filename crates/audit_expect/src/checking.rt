@@ -1,8 +1,10 @@
 //! From expectations and a capture to their report.
-ghost use Rattle.std.specs.Prelude.{◌≡◌, ◌↔◌, false, IfOk, IfErr, IsTrue};
+ghost use Rattle.std.specs.Prelude.{◌≡◌, ◌↔◌, false, map, IfOk, IfErr, IsTrue};
 ghost use Rattle.audit_expect.specs.Check.{IsCaptureChecked, IsCaptureCut, IsCaptureReported, capture_report, is_write, reading_tests};
+ghost use Rattle.audit_expect.specs.Marks.{no_states};
 ghost use Rattle.audit_expect.specs.Wanted.{plain_text};
-ghost use Rattle.expect_run.specs.Report.{report_as};
+ghost use Rattle.expect_judge.specs.Told.{event_as, kept_as};
+ghost use Rattle.expect_run.specs.Report.{report_as, tests};
 
 use crate::faults::first_fault;
 use crate::marks::marks;
@@ -10,7 +12,7 @@ use crate::readings::rounds_told;
 use crate::remarks::add_wanted;
 use crate::wanted::plain_text;
 use capture_core::Capture;
-use expect_judge::{Told, rounds_kept};
+use expect_judge::{EventLine, KeptRound, Told, rounds_kept};
 use expect_run::{ReportDraft, Tally, add_plan, open_report, tally_of};
 use expect_text::ExpectCause;
 use std::alloc::{AllocError, Global};
@@ -30,6 +32,24 @@ pub enum CaptureCheckError {
     Memory,
 }
 
+// The tests of expectations of readings, by these rounds and events.
+fn tests_of<'a>(
+    alloc: Global,
+    expectations: &[u8],
+    kept: &'a [KeptRound],
+    events: &'a [EventLine<'static>],
+) -> Result<ReportDraft, AllocError>
+    ensures { IfOk result (λ draft. report_as draft ≡ tests expectations.now (record { rounds = map kept_as kept.now; events = map event_as events.now }) (no_states expectations.now)) }
+{
+    let rounds = rounds_kept(alloc, kept)?;
+    let told = Told {
+        rounds: &rounds,
+        events,
+    };
+    let draft = open_report(alloc, expectations, &told, &[])?;
+    Ok(draft)
+}
+
 // The tests of expectations of readings.
 fn reading_tests(
     alloc: Global,
@@ -39,13 +59,9 @@ fn reading_tests(
     ensures { IfOk result (λ draft. report_as draft ≡ reading_tests expectations.now capture.now) }
 {
     let kept = rounds_told(alloc, capture)?;
-    let rounds = rounds_kept(alloc, &kept)?;
     let events = marks(alloc, expectations)?;
-    let told = Told {
-        rounds: &rounds,
-        events: &events,
-    };
-    open_report(alloc, expectations, &told, &[])
+    let draft = tests_of(alloc, expectations, &kept, &events)?;
+    Ok(draft)
 }
 
 // The report; `plain` are the expectations of readings.

@@ -10,7 +10,7 @@ use text_core::first_line;
 
 // Adds an event, where there is an instant.
 fn push_mark(
-    events: &mut Vec<EventLine<'_>>,
+    events: &mut Vec<EventLine<'static>>,
     number: u64,
     instant: Option<u64>,
 ) -> Result<(), AllocError>
@@ -32,10 +32,10 @@ fn push_mark(
 /// # Errors
 ///
 /// Want of memory.
-pub(crate) fn marks<'a>(
+pub(crate) fn marks(
     alloc: Global,
-    expectations: &'a [u8],
-) -> Result<Vec<EventLine<'a>>, AllocError>
+    expectations: &[u8],
+) -> Result<Vec<EventLine<'static>>, AllocError>
     ensures { IfOk result (λ events. map event_as events.items ≡ marks expectations.now) }
 {
     let mut events = Vec::new(alloc);

@@ -1,5 +1,5 @@
 -- What holds of the turns of a run that texts spell.
-use Rattle.std.proofs.Common.{◌≡◌, ℕ, zero, suc, ◌<◌, ◌≤◌, ◌^◌, false, List, [], ◌∷◌, ◌++◌, Result, Ok, refl, sym, ap, ap₂, subst, ◌∙◌, append_assoc}
+use Rattle.std.proofs.Common.{◌≡◌, ℕ, zero, suc, List, [], ◌∷◌, ◌++◌, Result, Ok, refl, sym, ap, ap₂, subst, ◌∙◌, append_assoc}
 use Rattle.std.specs.List.{flat_map}
 use Rattle.line_rounds.specs.declared.Outcome.{Outcome}
 use Rattle.line_rounds.specs.OneOutcome.{OneOutcome}
@@ -17,9 +17,8 @@ use Rattle.room_run.specs.declared.run.Reporting.{Reporting}
 use Rattle.room_run.specs.declared.run.Turn.{Turn}
 use Rattle.room_run.specs.declared.run.Turn.TheVariants.{Stop, Apply, Round}
 use Rattle.room_run.specs.Emulate.{IsAccepted}
-use Rattle.room_run.specs.Happening.{Goes, Happening, Happens, HappensBy, IsEvent, IsRoundOf, after_event}
-use Rattle.room_run.specs.Happening.Happening.{OfEvent, OfRound}
-use Rattle.room_run.specs.Run.{Config, IsEventTurn, IsTurn, IsTurnBy, Leads, counted_round, event_reported, start, turn_at}
+use Rattle.room_run.specs.Happening.{Goes, Happening, Happens, HappensBy, IsRoundOf, after_event}
+use Rattle.room_run.specs.Run.{Config, IsEventTurn, IsTurn, IsTurnBy, Leads, counted_round, start, turn_at}
 use Rattle.room_run.specs.RunLine.{rounds_by, rounds_in}
 use Rattle.room_run.proofs.Turns.{same_outcome}
 use Rattle.expect_told.specs.Turns.{IsRunOf}

@@ -1,5 +1,5 @@
 -- The line of a round that is told is of one round.
-use Rattle.std.proofs.Common.{◌≡◌, ℕ, zero, suc, ◌+◌, ◌^◌, ◌<◌, ◌≤◌, ◌==◌, Bool, true, false, if◌then◌else◌, codes, slice_get, List, [], ◌∷◌, ◌++◌, Option, Some, None, refl, sym, ap, subst, ◌∙◌, arith}
+use Rattle.std.proofs.Common.{◌≡◌, ℕ, zero, suc, ◌+◌, ◌^◌, ◌<◌, ◌≤◌, ◌==◌, Bool, false, if◌then◌else◌, codes, slice_get, List, [], ◌∷◌, ◌++◌, Some, refl, sym, ap, subst, ◌∙◌, arith}
 use Rattle.std.specs.Char.{digit_value}
 use Rattle.std.specs.Fmt.{decimal}
 use Rattle.std.specs.List.{All, flat_map}
@@ -25,7 +25,6 @@ use Rattle.room_script.proofs.Sound.{scripts_are_sound}
 use Rattle.room_run.specs.declared.run.Turn.{Turn}
 use Rattle.room_run.specs.declared.run.Turn.TheVariants.{Stop, Apply, Round}
 use Rattle.room_run.specs.Happening.{Goes, Happening, HappensBy}
-use Rattle.room_run.specs.Happening.Happening.{OfEvent, OfRound}
 use Rattle.room_run.specs.Run.{Config, first_time, start, turn_at}
 use Rattle.room_run.proofs.Advance.{round_begins}
 use Rattle.expect_run.specs.Report.{complete_word}

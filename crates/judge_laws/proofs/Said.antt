@@ -1,5 +1,5 @@
 -- What the rounds of a run say is what a pattern can meet.
-use Rattle.std.proofs.Common.{◌≡◌, ℕ, zero, suc, ◌+◌, ◌-◌, nat_le, ◌≤◌, ◌&&◌, inl, inr, Bool, true, false, true≢false, codes, if◌then◌else◌, length, map, slice_get, List, [], ◌∷◌, ◌++◌, append-nil, Option, Some, None, refl, sym, ap, subst, ◌∙◌, arith}
+use Rattle.std.proofs.Common.{◌≡◌, ℕ, zero, suc, ◌+◌, ◌-◌, nat_le, ◌≤◌, ◌&&◌, inl, inr, Bool, true, false, true≢false, codes, if◌then◌else◌, length, map, slice_get, List, [], ◌∷◌, ◌++◌, Option, Some, None, refl, sym, ap, subst, ◌∙◌, arith}
 use Rattle.std.proofs.lemmas.Bool.Decides.{nat_tests}
 use Rattle.std.proofs.lemmas.List.Elements.{All-append, All-cons, All-nil}
 use Rattle.std.specs.Prelude.{decimal}
@@ -15,7 +15,7 @@ use Rattle.line_rounds.specs.declared.Loser.{Loser}
 use Rattle.line_rounds.specs.declared.Outcome.{Outcome}
 use Rattle.line_rounds.specs.declared.Seat.{Seat}
 use Rattle.line_rounds.specs.Round.{IsRound, all_known, losers_from, lost_at, out_of, sends_in, survivors_from}
-use Rattle.message_text.specs.ReadingText.{is_broadcast, is_complete, last_bit, reported_by, reported_frame, reported_text, verdict_by, verdict_in, verdict_text}
+use Rattle.message_text.specs.ReadingText.{is_broadcast, is_complete, last_bit, reported_by, reported_frame, verdict_by, verdict_in}
 use Rattle.capture_monitor.specs.Watch.{reading_as}
 use Rattle.device_core.specs.State.{State}
 use Rattle.room_net.specs.State.{NetState, first_net}

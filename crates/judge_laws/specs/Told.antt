@@ -1,6 +1,6 @@
 -- What is told of a run is its trace (own): between what stands first and last in the trace, of each turn the line of what is told of it,
 -- and after an event the lines of the ports that come onto the wire by it.
-use Rattle.std.specs.Prelude.{◌≡◌, ℕ, Bool, true, false, List, [], ◌∷◌, ◌++◌, Option, Some, None, codes, slice_get}
+use Rattle.std.specs.Prelude.{◌≡◌, ℕ, false, List, [], ◌∷◌, ◌++◌, Option, Some, None, codes, slice_get}
 use Rattle.std.specs.Fmt.{decimal}
 use Rattle.std.specs.List.{concat, flat_map}
 use Rattle.line_rounds.specs.declared.Outcome.{Outcome}

@@ -1,10 +1,10 @@
-use Rattle.std.proofs.Common.{◌≡◌, false, map, ap, List, ◌++◌, ◌∙◌}
+use Rattle.std.proofs.Common.{map, ap, List, ◌++◌, ◌∙◌}
 use Rattle.line_reading.specs.Windows.{standard}
 use Rattle.capture_core.specs.Edges.{line_of_edges}
 use Rattle.capture_monitor.specs.Watch.{captured_by}
 use Rattle.capture_monitor.proofs.ReadBy.{standard_readings}
 use Rattle.audit_notes.specs.Lines.AuditLine.{Reading}
-use Rattle.expect_judge.specs.Told.{RoundLine, kept_as}
+use Rattle.expect_judge.specs.Told.{kept_as}
 use Rattle.expect_judge.specs.declared.kept.KeptRound.{KeptRound}
 use Rattle.audit_expect.specs.Heard.{rounds_of}
 use Rattle.audit_expect.specs.Marks.{listed_told}
