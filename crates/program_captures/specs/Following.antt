@@ -15,7 +15,6 @@ use Rattle.program_captures.specs.declared.fault.MonitorFault.{MonitorFault}
 use Rattle.program_captures.specs.declared.fault.MonitorFault.TheVariants as faults
 use Rattle.audit_notes.specs.Lines.{AuditLine, has_remark, lines_text}
 use Rattle.program_captures.specs.Captures.{AreHeard, IsShown}
-use Rattle.follow_audit.specs.declared.view.AuditView.{AuditView}
 use Rattle.cli_words.specs.declared.choice.FollowChoice.{FollowChoice}
 use Rattle.cli_words.specs.declared.choice.FollowReport.{FollowReport}
 use Rattle.cli_words.specs.declared.choice.FollowReport.TheVariants as line_reports
