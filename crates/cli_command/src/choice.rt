@@ -3,7 +3,7 @@ ghost use Rattle.std.specs.Prelude.{◌≡◌, true, IfOk, MatchResult, None, So
 ghost use Rattle.cli_words.specs.Operands.{asked_on, takes};
 
 use crate::values::value_hint;
-use crate::{frames_help, help};
+use crate::{edid_help, frames_help, help};
 use clap::error::ErrorKind;
 use clap::{Arg, ArgAction, Command, Error};
 use cli_words::{
@@ -195,9 +195,9 @@ fn add_mon<'a>(alloc: Global, program: Command<'a>) -> Result<Command<'a>, Alloc
 
 // Adds the command that reads EDIDs.
 fn add_edid<'a>(alloc: Global, program: Command<'a>) -> Result<Command<'a>, AllocError> {
-    let edid = plain_command(alloc, "edid", help::EDID_ABOUT, help::EDID_HELP);
-    let edid = with_flags(alloc, edid, help::EDID_FLAGS)?;
-    let edid = with_values(alloc, edid, help::EDID_VALUES)?;
+    let edid = plain_command(alloc, "edid", edid_help::EDID_ABOUT, edid_help::EDID_HELP);
+    let edid = with_flags(alloc, edid, edid_help::EDID_FLAGS)?;
+    let edid = with_values(alloc, edid, edid_help::EDID_VALUES)?;
     let edid = edid.arg(one_file(alloc))?;
     let receiver = operand(alloc, "receiver", "RECEIVER", help::RECEIVER);
     program.subcommand(edid.arg(receiver)?)
@@ -328,7 +328,7 @@ fn rules_of(subcommand: Subcommand) -> Option<&'static str> {
         Subcommand::Run => Some(help::RUN_RULES),
         Subcommand::Check => Some(help::CHECK_RULES),
         Subcommand::Mon => Some(help::MON_RULES),
-        Subcommand::Edid => Some(help::EDID_RULES),
+        Subcommand::Edid => Some(edid_help::EDID_RULES),
         Subcommand::Step | Subcommand::Live | Subcommand::Asm | Subcommand::Dis | Subcommand::Lay =>
             None,
     }

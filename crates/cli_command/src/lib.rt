@@ -2,6 +2,7 @@
 #![tactic(auto)]
 
 mod choice;
+mod edid_help;
 mod frames_help;
 mod help;
 mod values;
