@@ -1,4 +1,4 @@
-//! Tests of edid_fields and edid_blocks: which bits of a block are reserved, how many bytes it lacks or has left over, and where its
+//! Tests of edid_fields and edid_tables: which bits of a block are reserved, how many bytes it lacks or has left over, and where its
 //! fields stand, with values from the standards.
 #![tactic(auto)]
 
