@@ -1,4 +1,4 @@
-"""Rows of tables in definitions, texts of sources, and which crate uses which: what tools/pinned and tools/bytes read of a tree."""
+"""Rows of tables in definitions, texts of sources, and which crate uses which: what tools/pinned, tools/bytes and tools/objects read of a tree."""
 import glob
 import os
 import re
@@ -27,6 +27,12 @@ def files(tree, form):
 
 def crate_of(tree, path):
     return path[len(tree + '/crates/'):].split('/')[0]
+
+
+def rows_under(text, head):
+    """the cells of each row of a table of Markdown that begins with this line"""
+    lines = text[text.index(head):].split('\n\n')[0].split('\n')[2:]
+    return [[cell.strip() for cell in line.strip('|').split('|')] for line in lines]
 
 
 # ---------------------------------------------------------------- texts of sources
