@@ -59,6 +59,16 @@ class Bus:
         """The next line, where one comes in time."""
         return self.mon.stdout.readline().decode() if select.select([self.mon.stdout], [], [], seconds)[0] else ''
 
+    def close(self):
+        """The writer goes away."""
+        self.mon.stdin.close()
+        self.mon.stdin = None
+
+    def ends_well(self):
+        """Nothing more is written."""
+        self.close()
+        return self.ended() == (0, '', '')
+
     def ended(self):
         rest, fault = self.mon.communicate()
         return self.mon.returncode, rest.decode(), fault.decode()
@@ -84,9 +94,7 @@ def reads_edges_at_once():
     right = right and bus.is_quiet()
     bus.send('300000 end\n')
     right = right and bus.line() == '200000 227150 complete 4>4 nack\n'
-    bus.mon.stdin.close()
-    bus.mon.stdin = None
-    return right and bus.ended() == (0, '', '')
+    return bus.ends_well() and right
 
 
 def reads_pins_at_once():
@@ -103,9 +111,7 @@ def reads_pins_at_once():
         right = right and bus.is_quiet()
         bus.send('\n')
         right = right and bus.line() == '%d %d complete 4>f active-source 1.0.0.0 ok\n' % (begin, begin + 4500 + 39 * 2400 + 1050)
-    bus.mon.stdin.close()
-    bus.mon.stdin = None
-    return right and bus.ended() == (0, '', '')
+    return bus.ends_well() and right
 
 
 def reads_rows_at_once():
@@ -120,9 +126,7 @@ def reads_rows_at_once():
         right = right and bus.is_quiet()
         bus.send(row(begin + 110000, 1))
         right = right and bus.line() == '%d %d complete 4>f active-source 1.0.0.0 ok\n' % (begin, begin + 4500 + 39 * 2400 + 1050)
-    bus.mon.stdin.close()
-    bus.mon.stdin = None
-    return right and bus.ended() == (0, '', '')
+    return bus.ends_well() and right
 
 
 def remarks_at_once():
@@ -143,8 +147,7 @@ def remarks_at_once():
     right = right and bus.line() == '  slot 1 block 1 bit 1 total 1100 not 2050..2750\n' and bus.line() == '  low drive 3600\n' and bus.is_quiet()
     bus.send('100000 end\n')
     right = right and bus.is_quiet()
-    bus.mon.stdin.close()
-    bus.mon.stdin = None
+    bus.close()
     status, text, fault = bus.ended()
     return right and (status, fault) == (0, '') and text.startswith('  all readings\n  from 4: 0 taken, 1 not taken, 0 broken\n')
 
@@ -169,8 +172,7 @@ def objects_at_once():
     right = right and has_fields(bus.line(), line='  low drive 3600', type='remark', remark='low-drive', width=3600) and bus.is_quiet()
     bus.send('100000 end\n')
     right = right and bus.is_quiet()
-    bus.mon.stdin.close()
-    bus.mon.stdin = None
+    bus.close()
     status, text, fault = bus.ended()
     objects = [json.loads(line) for line in text.splitlines()]
     return right and (status, fault) == (1, 'hdminet: the audit has a remark\n') and [o['type'] for o in objects[:2]] == ['summary', 'sender'] and objects[1]['not_taken'] == 1
@@ -188,9 +190,7 @@ def waits_for_the_shortest_pulse():
     right = right and bus.is_quiet()
     bus.send('50000 end\n')
     right = right and bus.line() == '40000 40300 bad-start -\n'
-    bus.mon.stdin.close()
-    bus.mon.stdin = None
-    return right and bus.ended() == (0, '', '')
+    return bus.ends_well() and right
 
 
 def turns_levels():
@@ -204,9 +204,7 @@ def turns_levels():
         right = right and bus.is_quiet()
         bus.send(pin_line(begin + 110000, 0)[:-2] + told + '\n')
         right = right and bus.line() == '%d %d complete 4>f active-source 1.0.0.0 ok\n' % (begin, begin + 4500 + 39 * 2400 + 1050)
-    bus.mon.stdin.close()
-    bus.mon.stdin = None
-    return right and bus.ended() == (0, '', '')
+    return bus.ends_well() and right
 
 
 def has_fields(told, /, **fields):
@@ -305,8 +303,7 @@ def is_small(flags):
         count += bus.line() != ''
     with open('/proc/%d/status' % bus.mon.pid, encoding='utf-8') as file:
         peak = [int(line.split()[1]) for line in file if line.startswith('VmHWM')][0]
-    bus.mon.stdin.close()
-    bus.mon.stdin = None
+    bus.close()
     return count == len(range(20000, 3600 * 1000000, 400000)) and peak < 4 * MEGABYTE and bus.ended()[0] == 0
 
 
