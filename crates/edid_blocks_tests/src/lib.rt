@@ -1,8 +1,15 @@
-//! Tests of edid_fields and edid_tables: which bits of a block are reserved, how many bytes it lacks or has left over, and where its
-//! fields stand, with values from the standards.
+//! Tests of data blocks, of what the extended ones mean, and of dumps: rows by hand.
 #![tactic(auto)]
 
 #[cfg(test)]
 mod blocks;
 #[cfg(test)]
+mod extended;
+#[cfg(test)]
+mod forms;
+#[cfg(test)]
 mod places;
+#[cfg(test)]
+mod printed;
+#[cfg(test)]
+mod reading;

@@ -1,5 +1,0 @@
-//! Tests of frames in hex as sentences, into writers that fail.
-#![tactic(auto)]
-
-#[cfg(test)]
-mod writers;

@@ -1,0 +1,9 @@
+//! Tests of frames in hex, of what they mean, and of frames laid as pulls: each fault by its pulls, worked out by hand from the nominal times of the standard (CEC 5.2), and what is refused.
+#![tactic(auto)]
+
+#[cfg(test)]
+mod cases;
+#[cfg(test)]
+mod rows;
+#[cfg(test)]
+mod writers;
