@@ -1,4 +1,6 @@
-//! Tests of data blocks, of what the extended ones mean, and of dumps: rows by hand.
+//! Tests of data blocks: which bits are reserved, how many bytes a block lacks or has left over, where its fields stand, with values
+//! from the standards, and what the extended ones mean, as `edid-decode` reads the same bytes; and of dumps as tools print them, with
+//! other text around, and broken.
 #![tactic(auto)]
 
 #[cfg(test)]
