@@ -3,10 +3,11 @@ ghost use Rattle.std.specs.Prelude.{◌≡◌};
 ghost use Rattle.expect_text.specs.Remarks.{is_called, is_remark_called};
 
 use crate::pattern::fits;
+use audit_judged::EndingRemark;
 use audit_notes::NoteKind;
-use json_trace::word;
+use text_core::first_word;
 
-/// The kinds of remarks.
+/// The kinds of remarks. A number in one is no part of how it is called.
 const REMARKS: &[NoteKind] = &[
     NoteKind::NoAnswer,
     NoteKind::LateAnswer,
@@ -19,6 +20,9 @@ const REMARKS: &[NoteKind] = &[
     NoteKind::DriveWithin,
     NoteKind::Unfinished,
     NoteKind::LastAttempt,
+    NoteKind::GoesOn,
+    NoteKind::Ending(EndingRemark::Stops(0)),
+    NoteKind::Ending(EndingRemark::LoneStart(0)),
     NoteKind::Receivers,
     NoteKind::Operands,
 ];
@@ -41,5 +45,6 @@ fn is_called(name: &[u8], kinds: &[NoteKind]) -> bool
 pub fn is_remark_called(pattern: &[u8]) -> bool
     ensures { result ≡ is_remark_called pattern.now }
 {
-    is_called(word(pattern), REMARKS)
+    let (name, _words) = first_word(pattern);
+    is_called(name, REMARKS)
 }

@@ -2,7 +2,7 @@
 use crate::names::{add_name_meant, add_taken};
 use explain_again::Spot;
 use explain_lists::{Draft, word_at};
-use explain_marks::{InputLine, is_line_end, kind_of, ports_of};
+use explain_marks::{InputLine, is_event_word, is_line_end, is_script_verb, kind_of, ports_of};
 use explain_near::{add_near, add_nearest, add_number, add_other, add_suggestion};
 use room_script::TopologyCause;
 use text_core::Kind;
@@ -39,9 +39,6 @@ const OTHER_KINDS: &[(&str, &str)] = &[
 /// The words with which lines of a topology begin, and the one between it and a script.
 const TOPOLOGY_VERBS: &[&str] = &["device", "plug", "edid", "script"];
 
-/// The words with which lines of a script begin.
-const SCRIPT_VERBS: &[&str] = &["at", "pulse", "pull", "pin", "end", "label", "expect"];
-
 /// Words that lines of a topology begin with elsewhere.
 const OTHER_VERBS: &[(&str, &str)] = &[
     ("connect", "plug"),
@@ -54,9 +51,6 @@ const OTHER_VERBS: &[(&str, &str)] = &[
     ("dev", "device"),
     ("name", "device"),
 ];
-
-/// The words of events after `at T`.
-const EVENTS: &[&str] = &["press", "release", "unplug", "send", "hold", "drop"];
 
 // What a name of a topology's line may have been meant for, by its line.
 fn of_topology_name(draft: &mut Draft, spot: Spot<'_>, word: &str) {
@@ -101,9 +95,9 @@ fn add_nearest_kind(draft: &mut Draft, spot: Spot<'_>, word: &str) {
 
 // What the first word of a topology's line may have been meant for: one with which such a line begins, or a line of the script.
 fn of_topology_verb(draft: &mut Draft, spot: Spot<'_>, word: &str) {
-    if SCRIPT_VERBS.contains(&word) {
+    if is_script_verb(word) || matches!(word, "label" | "expect") {
         draft.add_line("this line is one of a script, which stands below the line `script`");
-    } else if EVENTS.contains(&word) {
+    } else if is_event_word(word) {
         writeln!(
             draft,
             "  `{word}` is an event of a script, below the line `script`: `at T {word} ..`"

@@ -1,6 +1,8 @@
 //! The forms of the lines of topologies, scripts and steps. A word in capitals stands for a value.
 use device_features::KeyWord;
+use room_lines::SCRIPT as SCRIPT_ROWS;
 use text_core::Kind;
+use text_forms::Slot;
 
 // The lines of a topology.
 const OF_TOPOLOGY: &[&str] = &[
@@ -88,6 +90,9 @@ pub const REMARKS: &[&str] = &[
     "drive-within",
     "unfinished",
     "too-many-attempts",
+    "goes-on",
+    "stops",
+    "lone-start",
     "receivers",
     "operands",
 ];
@@ -163,6 +168,45 @@ pub const LAID: &[&[&str]] = &[OF_LAID];
 
 /// The steps.
 pub const STEPS: &[&[&str]] = &[OF_STEPS];
+
+// Whether a place of a form has this word itself.
+fn is_own(place: (Slot, &str), word: &str) -> bool {
+    place.0 == Slot::Word && place.1 == word
+}
+
+fn is_first(form: &[(Slot, &str)], word: &str) -> bool {
+    match form {
+        [place, _others @ ..] => is_own(*place, word),
+        _ => false,
+    }
+}
+
+fn is_third(form: &[(Slot, &str)], word: &str) -> bool {
+    match form {
+        [_at, _time, place, _others @ ..] => is_own(*place, word),
+        _ => false,
+    }
+}
+
+/// Whether a line of a script begins with this word.
+pub fn is_script_verb(word: &str) -> bool {
+    for row in SCRIPT_ROWS {
+        if is_first(row.1, word) {
+            return true;
+        }
+    }
+    false
+}
+
+/// Whether an event of a script has this word after its time.
+pub fn is_event_word(word: &str) -> bool {
+    for row in SCRIPT_ROWS {
+        if is_third(row.1, word) {
+            return true;
+        }
+    }
+    false
+}
 
 /// Whether a word of a form stands for a value.
 pub fn is_value(wanted: &str) -> bool {

@@ -17,7 +17,7 @@ pub use expectations::{
 pub use fault::{Input, InputFault, Parting, WholeFault};
 pub use grammar::{
     EXPECTATIONS, LAID, NETWORK, REFUSALS, REMARKS, SCRIPT, SESSION, SESSION_ALONE, STEPS, TEST,
-    TOPOLOGY, fitting, is_value, missing, most_fitting, wanted_at,
+    TOPOLOGY, fitting, is_event_word, is_script_verb, is_value, missing, most_fitting, wanted_at,
 };
 pub use marks::{Mark, frame_start, gaps_of, is_number, is_word, marked};
 pub use place::{

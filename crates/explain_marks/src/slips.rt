@@ -1,7 +1,7 @@
 //! Slips that make another word of a line at fault than the one that was written wrong.
 use crate::expectations::{window_start, without_label};
 use crate::fault::InputFault;
-use crate::grammar::REFUSALS;
+use crate::grammar::{REFUSALS, is_event_word, is_script_verb};
 use crate::marks::{Mark, is_word};
 use device_features::KeyWord;
 use expect_text::ExpectCause;
@@ -39,9 +39,6 @@ pub struct Slipped {
     pub mark: Mark,
 }
 
-/// The words that follow the time of an event.
-const EVENT_WORDS: &[&str] = &["press", "release", "plug", "unplug", "send", "hold", "drop"];
-
 // Words of a line, by their numbers after its label.
 fn at_words(slip: WordSlip, first: usize, last: usize) -> Option<Slipped> {
     Some(Slipped {
@@ -72,15 +69,8 @@ fn is_key(word: Option<&str>) -> bool {
     }
 }
 
-fn is_event_word(word: Option<&str>) -> bool {
-    match word {
-        Some(word) => EVENT_WORDS.contains(&word),
-        None => false,
-    }
-}
-
 fn in_event(line: &str) -> Option<Slipped> {
-    if is_event_word(word_at(line, 1)) {
+    if is_event_word(word_at(line, 1).unwrap_or("")) {
         return at_words(WordSlip::NoTime, 1, 1);
     }
     let is_of_key = is_word(line, 2, "press") || is_word(line, 2, "release");
@@ -153,10 +143,10 @@ fn in_label(line: &str) -> Option<Slipped> {
 fn in_line(line: &str) -> Option<Slipped> {
     match word_at(line, 0) {
         Some("at") => in_event(line),
-        Some("pulse" | "pull" | "pin" | "end") if is_word(line, 1, "at") => {
+        Some("expect") => in_expected(line),
+        Some(verb) if is_script_verb(verb) && is_word(line, 1, "at") => {
             at_words(WordSlip::StrayAt, 1, 1)
         }
-        Some("expect") => in_expected(line),
         _ => None,
     }
 }

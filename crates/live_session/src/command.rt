@@ -1,13 +1,15 @@
 //! The lines of a session that are no lines of a script.
 ghost use Rattle.std.specs.Prelude.{◌≡◌};
 ghost use Rattle.std.specs.Option.{option_copied};
-ghost use Rattle.text_core.specs.Words.{one_of, two_of, words_after};
-ghost use Rattle.room_script.specs.Script.{time_of};
-ghost use Rattle.live_session.specs.Command.{command_of, edge_words, edges_words, seats_words, pin_time, pin_words_time, run_words, show_words, wait_words};
+ghost use Rattle.text_core.specs.Words.{two_of, words_after, words_of};
+ghost use Rattle.text_forms.specs.Forms.{said, values_of};
+ghost use Rattle.live_session.specs.Command.{command_of, command_said, pin_time, pin_words_time, session_said};
 
 use edid_tree::Tree;
+use room_lines::{SESSION, SessionVerb};
 use room_script::time_in;
-use text_core::{first_word, one_word, two_words};
+use text_core::{AtWord, first_word, two_words};
+use text_forms::{FormLine, LineCause, read_line};
 
 /// What a line of a session is.
 #[derive(Clone, Copy, Debug, PartialEq, Eq)]
@@ -28,82 +30,6 @@ pub enum SessionCommand {
     Edges(bool),
     /// `seats on` or `seats off`: whether notes of devices from outside are reported.
     Seats(bool),
-}
-
-// What the words after `run` ask for.
-fn run_in(rest: Option<&[u8]>) -> SessionCommand
-    ensures { result ≡ run_words (two_of (words_after (option_copied rest.entry))) }
-{
-    let Some((to, time)) = two_words(rest) else {
-        return SessionCommand::Script;
-    };
-    if to == b"to".as_slice() {
-        SessionCommand::RunTo(time_in(time))
-    } else {
-        SessionCommand::Script
-    }
-}
-
-// What the word after `wait` asks for.
-fn wait_in(rest: Option<&[u8]>) -> SessionCommand
-    ensures { result ≡ wait_words (one_of (words_after (option_copied rest.entry))) }
-{
-    let Some(time) = one_word(rest) else {
-        return SessionCommand::Script;
-    };
-    SessionCommand::WaitUntil(time_in(time))
-}
-
-// What the word after `show` asks for.
-fn show_in(tree: &Tree<15>, rest: Option<&[u8]>) -> SessionCommand
-    ensures { result ≡ show_words tree.now (one_of (words_after (option_copied rest.entry))) }
-{
-    let Some(name) = one_word(rest) else {
-        return SessionCommand::Script;
-    };
-    SessionCommand::Show(tree.device_named(name))
-}
-
-// What the word after `edge` asks for.
-fn edge_in(rest: Option<&[u8]>) -> SessionCommand
-    ensures { result ≡ edge_words (one_of (words_after (option_copied rest.entry))) }
-{
-    let Some(time) = one_word(rest) else {
-        return SessionCommand::Script;
-    };
-    SessionCommand::Edge(time_in(time))
-}
-
-// What the word after `edges` asks for.
-fn edges_in(rest: Option<&[u8]>) -> SessionCommand
-    ensures { result ≡ edges_words (one_of (words_after (option_copied rest.entry))) }
-{
-    let Some(word) = one_word(rest) else {
-        return SessionCommand::Script;
-    };
-    if word == b"on".as_slice() {
-        SessionCommand::Edges(true)
-    } else if word == b"off".as_slice() {
-        SessionCommand::Edges(false)
-    } else {
-        SessionCommand::Script
-    }
-}
-
-// What the word after `seats` asks for.
-fn seats_in(rest: Option<&[u8]>) -> SessionCommand
-    ensures { result ≡ seats_words (one_of (words_after (option_copied rest.entry))) }
-{
-    let Some(word) = one_word(rest) else {
-        return SessionCommand::Script;
-    };
-    if word == b"on".as_slice() {
-        SessionCommand::Seats(true)
-    } else if word == b"off".as_slice() {
-        SessionCommand::Seats(false)
-    } else {
-        SessionCommand::Script
-    }
 }
 
 // The time in the words after `pin`.
@@ -128,27 +54,35 @@ pub(crate) fn pin_time(line: &[u8]) -> Option<u64>
     }
 }
 
+// The form of a line, and its values.
+#[tactic(auto, unfolding(crate::specs::Command::session_said))]
+fn session_said(line: &[u8]) -> Result<FormLine<'_, SessionVerb>, AtWord<LineCause>>
+    ensures { said result ≡ session_said (words_of line.now) }
+{
+    read_line(SESSION, line)
+}
+
+// What the values of a form ask for.
+fn command_said(tree: &Tree<15>, line: &FormLine<'_, SessionVerb>) -> SessionCommand
+    ensures { result ≡ command_said tree.now line.now.verb (values_of line.now) }
+{
+    match line.verb {
+        SessionVerb::RunTo => SessionCommand::RunTo(line.late_time(2)),
+        SessionVerb::Wait => SessionCommand::Wait,
+        SessionVerb::WaitUntil => SessionCommand::WaitUntil(line.late_time(1)),
+        SessionVerb::Show => SessionCommand::Show(tree.device_named(line.text(1))),
+        SessionVerb::Edge => SessionCommand::Edge(line.late_time(1)),
+        SessionVerb::Edges => SessionCommand::Edges(line.level(1)),
+        SessionVerb::Seats => SessionCommand::Seats(line.level(1)),
+    }
+}
+
 /// What a line asks for.
 pub(crate) fn command_in(tree: &Tree<15>, line: &[u8]) -> SessionCommand
     ensures { result ≡ command_of tree.now line.now }
 {
-    if line == b"wait".as_slice() {
-        return SessionCommand::Wait;
-    }
-    let (verb, rest) = first_word(line);
-    if verb == b"run".as_slice() {
-        run_in(rest)
-    } else if verb == b"wait".as_slice() {
-        wait_in(rest)
-    } else if verb == b"show".as_slice() {
-        show_in(tree, rest)
-    } else if verb == b"edge".as_slice() {
-        edge_in(rest)
-    } else if verb == b"edges".as_slice() {
-        edges_in(rest)
-    } else if verb == b"seats".as_slice() {
-        seats_in(rest)
-    } else {
-        SessionCommand::Script
+    match session_said(line) {
+        Ok(line) => command_said(tree, &line),
+        Err(_) => SessionCommand::Script,
     }
 }

@@ -2,6 +2,7 @@
 ghost use Rattle.std.specs.Prelude.{◌≡◌, true};
 ghost use Rattle.text_forms.specs.Laws.{all_apart};
 ghost use Rattle.room_lines.specs.Script.{script_rows};
+ghost use Rattle.room_lines.specs.Session.{session_rows};
 ghost use Rattle.room_lines.specs.Topology.{topology_rows};
 
 /// No line has two of the forms of a topology, so that each line's reading and its canonical text determine each other.
@@ -12,4 +13,9 @@ pub fn topology_rows_are_apart()
 /// No line has two of the forms of a script.
 pub fn script_rows_are_apart()
     ensures { all_apart script_rows ≡ true }
+{}
+
+/// No line has two of the forms of a session.
+pub fn session_rows_are_apart()
+    ensures { all_apart session_rows ≡ true }
 {}

@@ -3,8 +3,10 @@
 
 mod laws;
 mod script;
+mod session;
 mod topology;
 
-pub use laws::{script_rows_are_apart, topology_rows_are_apart};
+pub use laws::{script_rows_are_apart, session_rows_are_apart, topology_rows_are_apart};
 pub use script::{SCRIPT, ScriptVerb};
+pub use session::{SESSION, SessionVerb};
 pub use topology::{TOPOLOGY, TopologyVerb};

@@ -21,7 +21,8 @@ pub enum ScriptVerb {
 }
 
 /// Each form, with what stands at its places: a row for each key. What stands after the name of `send` is `attempts N` or
-/// nothing, and a frame. Where the caller has a cause of a word itself, which comes before that of a time, the time is `Text`.
+/// nothing, and a frame. Where a word has a cause that the caller tells, which comes before that of the time, the time is
+/// `LateTime`.
 pub const SCRIPT: &[(ScriptVerb, &[(Slot, &str)])] = &[
     (
         ScriptVerb::Press(KeyWord::Play),
@@ -128,7 +129,7 @@ pub const SCRIPT: &[(ScriptVerb, &[(Slot, &str)])] = &[
         ScriptVerb::Press(KeyWord::Watch),
         &[
             (Slot::Word, "at"),
-            (Slot::Text, "T"),
+            (Slot::LateTime, "T"),
             (Slot::Word, "press"),
             (Slot::Text, "NAME"),
             (Slot::Key, "watch"),
@@ -139,7 +140,7 @@ pub const SCRIPT: &[(ScriptVerb, &[(Slot, &str)])] = &[
         ScriptVerb::Press(KeyWord::Language),
         &[
             (Slot::Word, "at"),
-            (Slot::Text, "T"),
+            (Slot::LateTime, "T"),
             (Slot::Word, "press"),
             (Slot::Text, "NAME"),
             (Slot::Key, "language"),
@@ -172,7 +173,7 @@ pub const SCRIPT: &[(ScriptVerb, &[(Slot, &str)])] = &[
         ScriptVerb::Press(KeyWord::Remote),
         &[
             (Slot::Word, "at"),
-            (Slot::Text, "T"),
+            (Slot::LateTime, "T"),
             (Slot::Word, "press"),
             (Slot::Text, "NAME"),
             (Slot::Key, "remote"),
@@ -285,7 +286,7 @@ pub const SCRIPT: &[(ScriptVerb, &[(Slot, &str)])] = &[
         ScriptVerb::Release(KeyWord::Watch),
         &[
             (Slot::Word, "at"),
-            (Slot::Text, "T"),
+            (Slot::LateTime, "T"),
             (Slot::Word, "release"),
             (Slot::Text, "NAME"),
             (Slot::Key, "watch"),
@@ -296,7 +297,7 @@ pub const SCRIPT: &[(ScriptVerb, &[(Slot, &str)])] = &[
         ScriptVerb::Release(KeyWord::Language),
         &[
             (Slot::Word, "at"),
-            (Slot::Text, "T"),
+            (Slot::LateTime, "T"),
             (Slot::Word, "release"),
             (Slot::Text, "NAME"),
             (Slot::Key, "language"),
@@ -329,7 +330,7 @@ pub const SCRIPT: &[(ScriptVerb, &[(Slot, &str)])] = &[
         ScriptVerb::Release(KeyWord::Remote),
         &[
             (Slot::Word, "at"),
-            (Slot::Text, "T"),
+            (Slot::LateTime, "T"),
             (Slot::Word, "release"),
             (Slot::Text, "NAME"),
             (Slot::Key, "remote"),
@@ -361,7 +362,7 @@ pub const SCRIPT: &[(ScriptVerb, &[(Slot, &str)])] = &[
         ScriptVerb::Send,
         &[
             (Slot::Word, "at"),
-            (Slot::Text, "T"),
+            (Slot::LateTime, "T"),
             (Slot::Word, "send"),
             (Slot::Text, "NAME"),
             (Slot::Rest, "FRAME"),
@@ -371,7 +372,7 @@ pub const SCRIPT: &[(ScriptVerb, &[(Slot, &str)])] = &[
         ScriptVerb::Hold,
         &[
             (Slot::Word, "at"),
-            (Slot::Text, "T"),
+            (Slot::LateTime, "T"),
             (Slot::Word, "hold"),
             (Slot::Text, "NAME"),
             (Slot::Text, "ADDRS"),

@@ -6,7 +6,7 @@ use Rattle.line_wave.specs.declared.Stretch.{Stretch}
 use Rattle.line_wave.specs.declared.PulsesError.{PulsesError}
 use Rattle.line_wave.specs.declared.PulsesError.TheVariants as faults
 use Rattle.line_wave.specs.Pulses.{first_of, stretch_fault}
-use Rattle.text_forms.specs.Forms.{Meaning, Said, level_at, number_at, port_at, text_at, time_at, words_at}
+use Rattle.text_forms.specs.Forms.{Meaning, Said, late_time_at, level_at, number_at, port_at, text_at, time_at, words_at}
 use Rattle.room_lines.specs.declared.script.ScriptVerb.{ScriptVerb}
 use Rattle.room_lines.specs.declared.script.ScriptVerb.TheVariants as verbs
 use Rattle.edid_tree.specs.Node.{Node}
@@ -14,6 +14,7 @@ use Rattle.edid_tree.specs.Tree.{device_named}
 use Rattle.device_features.specs.declared.keys.Key.{Key as KeyValue}
 use Rattle.text_core.specs.Lines.{is_skipped}
 use Rattle.text_core.specs.Words.{words_of}
+use Rattle.room_script.specs.Keys.{key_said}
 use Rattle.room_script.specs.Header.{header_names}
 use Rattle.room_script.specs.Holding.{hold_of}
 use Rattle.device_core.specs.declared.outside.Act.{Act}
@@ -26,9 +27,7 @@ use Rattle.text_core.specs.At.{at_word}
 use Rattle.text_core.specs.declared.at.AtWord.{AtWord}
 use Rattle.room_script.specs.declared.script.ScriptCause.{ScriptCause}
 use Rattle.room_script.specs.declared.script.ScriptCause.TheVariants.{Width, Order, TooMany, End}
-use Rattle.room_script.specs.Rows.{IsSaid, IsSaidRead, key_said, key_time, line_said, plug_checked}
-use Rattle.room_script.proofs.ByForms.{line_same}
-use Rattle.room_script.specs.Script.{Notes, time_of, last_time, last_end, notes_with_event, unplug_read, key_read, act_read, send_read, frame_event, unless_fault, pulse_refusal, notes_with_pulse, touches, notes_with_pull, is_before, pin_falls, pin_rises, pin_stays_high, pin_stays_low, notes_with_level, pulses_ended, end_read, IsHandedRead}
+use Rattle.room_script.specs.Script.{IsSaid, IsSaidRead, key_time, line_said, plug_checked, Notes, last_time, last_end, notes_with_event, unplug_checked, key_read, act_read, send_read, frame_event, unless_fault, pulse_refusal, notes_with_pulse, touches, notes_with_pull, is_before, pin_falls, pin_rises, pin_stays_high, pin_stays_low, notes_with_level, pulses_ended, end_checked, IsHandedRead}
 use Rattle.room_script.specs.Sending.{handed_in}
 use Rattle.room_script.specs.Lines.{IsMore, LinesAdd, LinesAreOfScripts, LinesKeepFew, pulls_held}
 use Rattle.line_wave.specs.Bounds.{latest_event, most_pulses, most_pulls, widest_pull}
@@ -160,10 +159,9 @@ plug-adds waiting notes line time port None parent = adds_err waiting notes _ re
 plug-adds waiting notes line time port (Some child) None = adds_err waiting notes _ refl
 plug-adds waiting notes line time port (Some child) (Some parent) = scheduled-adds waiting notes line time (Plug child parent port)
 
-unplug_read-adds : (waiting : ℕ) (notes : Notes) (line : ℕ) (time child : Option ℕ) → Adds waiting notes (unplug_read notes line time child)
-unplug_read-adds waiting notes line None child = adds_err waiting notes _ refl
-unplug_read-adds waiting notes line (Some time) None = adds_err waiting notes _ refl
-unplug_read-adds waiting notes line (Some time) (Some child) = scheduled-adds waiting notes line time (Unplug child)
+unplug-adds : (waiting : ℕ) (notes : Notes) (line time : ℕ) (child : Option ℕ) → Adds waiting notes (unplug_checked notes line time child)
+unplug-adds waiting notes line time None = adds_err waiting notes _ refl
+unplug-adds waiting notes line time (Some child) = scheduled-adds waiting notes line time (Unplug child)
 
 key_read-adds : (waiting : ℕ) (notes : Notes) (line : ℕ) (press : Bool) (key : Result KeyValue (AtWord ScriptCause)) (time device : Option ℕ) → Adds waiting notes (key_read notes line press key time device)
 key_read-adds waiting notes line press (Err cause) time device = adds_err waiting notes _ refl
@@ -186,12 +184,12 @@ send_read-adds waiting notes line at (Some time) (Some attempts) (Some device) N
 send_read-adds waiting notes line at (Some time) (Some attempts) (Some device) (Some names) (Err fault) = adds_err waiting notes _ refl
 send_read-adds waiting notes line at (Some time) (Some attempts) (Some device) (Some names) (Ok frame) = scheduled-adds waiting notes line time (frame_event device (record { line = line; attempts = attempts }) names frame)
 
-handed-adds : (waiting : ℕ) (tree : List Node) (notes : Notes) (line : ℕ) (time name : List ℕ) (at : ℕ) (attempts : Option (Option ℕ)) (words : List (List ℕ)) (next : Notes)
+handed-adds : (waiting : ℕ) (tree : List Node) (notes : Notes) (line : ℕ) (time : Option ℕ) (name : List ℕ) (at : ℕ) (attempts : Option (Option ℕ)) (words : List (List ℕ)) (next : Notes)
     → IsHandedRead tree notes line time name at attempts words (Ok next) → IsMore waiting notes next
 handed-adds waiting tree notes line time name at attempts [] next h = cc
 handed-adds waiting tree notes line time name at attempts (word ∷ words) next h =
-    adds_next waiting notes (send_read notes line at (time_of time) attempts (device_named tree name) (header_names tree word) h.0) next
-    (send_read-adds waiting notes line at (time_of time) attempts (device_named tree name) (header_names tree word) h.0) (sym h.2)
+    adds_next waiting notes (send_read notes line at time attempts (device_named tree name) (header_names tree word) h.0) next
+    (send_read-adds waiting notes line at time attempts (device_named tree name) (header_names tree word) h.0) (sym h.2)
 
 -- none of two
 neither : (a b : Bool) → (a || b) ≡ false → a ≡ false
@@ -255,9 +253,8 @@ level-adds waiting notes time None true is = high-adds waiting notes time
 level-adds waiting notes time (Some from) false is = low-adds waiting notes from time
 level-adds waiting notes time (Some from) true is = rise-adds waiting notes from time (ap pulls_held is)
 
-end_read-adds : (waiting : ℕ) (notes : Notes) (time : Option ℕ) → Adds waiting notes (end_read notes time)
-end_read-adds waiting notes None = adds_err waiting notes _ refl
-end_read-adds waiting notes (Some time) =
+end-adds : (waiting : ℕ) (notes : Notes) (time : ℕ) → Adds waiting notes (end_checked notes time)
+end-adds waiting notes time =
     adds_if waiting notes (is_some notes.end) _ _ (adds_err waiting notes _ refl)
     (adds_if waiting notes (nat_lt 0 (length notes.events) && nat_le time (last_time notes.events)) _ _ (adds_err waiting notes _ refl) (adds_ok waiting notes _ (ended notes.pin refl)))
   where
@@ -270,18 +267,18 @@ said-adds : (waiting : ℕ) (tree : List Node) (notes : Notes) (line : ℕ) (ver
 said-adds waiting tree notes line (verbs.Press word) values next h = adds_next waiting notes (key_read notes line true (key_said word values) (key_time word values) (device_named tree (text_at values 3))) next (key_read-adds waiting notes line true (key_said word values) (key_time word values) (device_named tree (text_at values 3))) (sym h)
 said-adds waiting tree notes line (verbs.Release word) values next h = adds_next waiting notes (key_read notes line false (key_said word values) (key_time word values) (device_named tree (text_at values 3))) next (key_read-adds waiting notes line false (key_said word values) (key_time word values) (device_named tree (text_at values 3))) (sym h)
 said-adds waiting tree notes line verbs.Plug values next h = adds_next waiting notes (plug_checked notes line (time_at values 1) (port_at values 5) (device_named tree (text_at values 3)) (device_named tree (text_at values 4))) next (plug-adds waiting notes line (time_at values 1) (port_at values 5) (device_named tree (text_at values 3)) (device_named tree (text_at values 4))) (sym h)
-said-adds waiting tree notes line verbs.Unplug values next h = adds_next waiting notes (unplug_read notes line (Some (time_at values 1)) (device_named tree (text_at values 3))) next (unplug_read-adds waiting notes line (Some (time_at values 1)) (device_named tree (text_at values 3))) (sym h)
+said-adds waiting tree notes line verbs.Unplug values next h = adds_next waiting notes (unplug_checked notes line (time_at values 1) (device_named tree (text_at values 3))) next (unplug-adds waiting notes line (time_at values 1) (device_named tree (text_at values 3))) (sym h)
 said-adds waiting tree notes line verbs.Send values next h =
     let handed = handed_in (words_at values 4) in
-    handed-adds waiting tree notes line (text_at values 1) (text_at values 3) handed.at handed.attempts handed.words next h
-said-adds waiting tree notes line verbs.Hold values next h = adds_next waiting notes (act_read notes line (hold_of (text_at values 4)) (time_of (text_at values 1)) (device_named tree (text_at values 3))) next (act_read-adds waiting notes line (hold_of (text_at values 4)) (time_of (text_at values 1)) (device_named tree (text_at values 3))) (sym h)
+    handed-adds waiting tree notes line (late_time_at values 1) (text_at values 3) handed.at handed.attempts handed.words next h
+said-adds waiting tree notes line verbs.Hold values next h = adds_next waiting notes (act_read notes line (hold_of (text_at values 4)) (late_time_at values 1) (device_named tree (text_at values 3))) next (act_read-adds waiting notes line (hold_of (text_at values 4)) (late_time_at values 1) (device_named tree (text_at values 3))) (sym h)
 said-adds waiting tree notes line verbs.Drop values next h = adds_next waiting notes (act_read notes line (Some Empty) (Some (time_at values 1)) (device_named tree (text_at values 3))) next (act_read-adds waiting notes line (Some Empty) (Some (time_at values 1)) (device_named tree (text_at values 3))) (sym h)
 said-adds waiting tree notes line verbs.Pulse values next h =
     let pulse : Stretch = record { from = time_at values 1; to = time_at values 1 + min (number_at values 2) 65535 } in
     adds_next waiting notes (notes_with_pulse notes waiting pulse) next (pulsed-adds waiting notes pulse) (sym h)
 said-adds waiting tree notes line verbs.Pull values next h = adds_next waiting notes (notes_with_pull notes waiting (time_at values 1) (number_at values 2)) next (pulled-adds waiting notes (time_at values 1) (number_at values 2)) (sym h)
 said-adds waiting tree notes line verbs.Pin values next h = adds_next waiting notes (notes_with_level notes waiting (time_at values 1) notes.pin (level_at values 2)) next (level-adds waiting notes (time_at values 1) notes.pin (level_at values 2) refl) (sym h)
-said-adds waiting tree notes line verbs.End values next h = adds_next waiting notes (end_read notes (Some (time_at values 1))) next (end_read-adds waiting notes (Some (time_at values 1))) (sym h)
+said-adds waiting tree notes line verbs.End values next h = adds_next waiting notes (end_checked notes (time_at values 1)) next (end-adds waiting notes (time_at values 1)) (sym h)
 
 form-adds : (waiting : ℕ) (tree : List Node) (notes : Notes) (line : ℕ) (said : Said ScriptVerb) (next : Notes) → IsSaidRead tree notes waiting line said (Ok next) → IsMore waiting notes next
 form-adds waiting tree notes line (Err fault) next h = cc
@@ -292,7 +289,7 @@ pub line_adds : LinesAdd
 line_adds waiting tree notes line text next h =
     by_cond (is_skipped text) (Ok next ≡ Ok notes) (IsSaidRead tree notes waiting line (line_said (words_of text)) (Ok next)) (IsMore waiting notes next)
     (λ p. adds_next waiting notes (Ok notes) next (adds_ok waiting notes notes (with_none waiting notes)) (sym p))
-    (λ q. form-adds waiting tree notes line (line_said (words_of text)) next q) ((line_same tree notes waiting line text (Ok next)).1 h)
+    (λ q. form-adds waiting tree notes line (line_said (words_of text)) next q) (h)
 
 -- what a script pulls low stays few
 pub few_pulses : LinesKeepFew
@@ -418,7 +415,7 @@ form_again tree notes next waiting line (Ok said) few h = said_again tree notes 
 -- a line that is taken is one of a script too, where its pulses and pulls are few in all
 pub read_again : LinesAreOfScripts
 read_again tree notes next waiting line text few h =
-    (line_same tree notes (length notes.pulses) line text (Ok next)).0 (by_text (is_skipped text) ((line_same tree notes waiting line text (Ok next)).1 h))
+    by_text (is_skipped text) h
   where
     by_text : (b : Bool) → cond {A = Type 0} b (◌≡◌ {A = Result Notes (AtWord ScriptCause)} (Ok next) (Ok notes)) (IsSaidRead tree notes waiting line (line_said (words_of text)) (Ok next))
         → cond {A = Type 0} b (◌≡◌ {A = Result Notes (AtWord ScriptCause)} (Ok next) (Ok notes)) (IsSaidRead tree notes (length notes.pulses) line (line_said (words_of text)) (Ok next))

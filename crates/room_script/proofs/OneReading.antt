@@ -1,7 +1,7 @@
 -- A text that is read as a script is read in no other way.
 use Rattle.std.proofs.Common.{◌≡◌, ℕ, ◌+◌, Bool, true, false, cond, codes, List, [], ◌∷◌, length, Option, Some, None, Result, Ok, Err, refl, sym, ap, subst, ◌∙◌}
 use Rattle.std.specs.Str.{bytes_eq}
-use Rattle.text_forms.specs.Forms.{Meaning, Said as SaidBy, text_at, words_at}
+use Rattle.text_forms.specs.Forms.{Meaning, Said as SaidBy, late_time_at, text_at, words_at}
 use Rattle.room_lines.specs.declared.script.ScriptVerb.{ScriptVerb}
 use Rattle.room_lines.specs.declared.script.ScriptVerb.TheVariants as verbs
 use Rattle.edid_tree.specs.Node.{Node}
@@ -15,9 +15,7 @@ use Rattle.room_script.specs.Header.{header_names, digits_text}
 use Rattle.text_core.specs.declared.at.AtWord.{AtWord}
 use Rattle.room_script.specs.declared.script.ScriptCause.{ScriptCause}
 use Rattle.room_script.specs.Sending.{frame_read, handed_in, hex_read, IsFrameOf, IsFrameRead, IsTextRead}
-use Rattle.room_script.specs.Rows.{IsSaid, IsSaidRead, line_said}
-use Rattle.room_script.proofs.ByForms.{line_same}
-use Rattle.room_script.specs.Script.{Course, Notes, time_of, send_read, no_notes, IsHandedRead, IsLineRead, Onward, AreLinesRead, OneScript}
+use Rattle.room_script.specs.Script.{IsSaid, IsSaidRead, line_said, Course, Notes, send_read, no_notes, IsHandedRead, IsLineRead, Onward, AreLinesRead, OneScript}
 use Rattle.text_core.specs.declared.at.At.{At}
 
 -- a frame's text is no other's
@@ -54,12 +52,12 @@ one_send_read notes next line at (Some time) (Some attempts) (Some device) (Some
 one_send_read notes next line at (Some time) (Some attempts) (Some device) (Some names) (Ok frame) q f e =
     ap (send_read notes line at (Some time) (Some attempts) (Some device) (Some names)) (f frame refl) ∙ sym e
 
-one_handed : (tree : List Node) (notes next : Notes) (line : ℕ) (time name : List ℕ) (at : ℕ) (attempts : Option (Option ℕ)) (words : List (List ℕ)) (read : Result Notes (AtWord ScriptCause))
+one_handed : (tree : List Node) (notes next : Notes) (line : ℕ) (time : Option ℕ) (name : List ℕ) (at : ℕ) (attempts : Option (Option ℕ)) (words : List (List ℕ)) (read : Result Notes (AtWord ScriptCause))
     → IsHandedRead tree notes line time name at attempts words (Ok next) → IsHandedRead tree notes line time name at attempts words read → read ≡ Ok next
 one_handed tree notes next line time name at attempts [] read h g = cc
 one_handed tree notes next line time name at attempts (word ∷ words) read h g =
     let Said : Result (List ℕ) (AtWord ScriptCause) → Type 0 = λ r. IsFrameRead at (word ∷ words) r in
-    g.2 ∙ one_send_read notes next line at (time_of time) attempts (device_named tree name) (header_names tree word) h.0 g.0 (λ frame e. one_said at (word ∷ words) frame g.0 (subst Said e h.1) g.1) h.2
+    g.2 ∙ one_send_read notes next line at time attempts (device_named tree name) (header_names tree word) h.0 g.0 (λ frame e. one_said at (word ∷ words) frame g.0 (subst Said e h.1) g.1) h.2
 
 one_form : (tree : List Node) (notes next : Notes) (waiting line : ℕ) (verb : ScriptVerb) (values : List Meaning) (read : Result Notes (AtWord ScriptCause)) → IsSaid tree notes waiting line verb values (Ok next)
     → IsSaid tree notes waiting line verb values read → read ≡ Ok next
@@ -69,7 +67,7 @@ one_form tree notes next waiting line verbs.Plug values read h g = g ∙ sym h
 one_form tree notes next waiting line verbs.Unplug values read h g = g ∙ sym h
 one_form tree notes next waiting line verbs.Send values read h g =
     let handed = handed_in (words_at values 4) in
-    one_handed tree notes next line (text_at values 1) (text_at values 3) handed.at handed.attempts handed.words read h g
+    one_handed tree notes next line (late_time_at values 1) (text_at values 3) handed.at handed.attempts handed.words read h g
 one_form tree notes next waiting line verbs.Hold values read h g = g ∙ sym h
 one_form tree notes next waiting line verbs.Drop values read h g = g ∙ sym h
 one_form tree notes next waiting line verbs.Pulse values read h g = g ∙ sym h
@@ -85,7 +83,7 @@ one_read tree notes next waiting line (Ok said) read h g = one_form tree notes n
 one_line : (tree : List Node) (notes next : Notes) (waiting line : ℕ) (text : List ℕ) (read : Result Notes (AtWord ScriptCause)) → IsLineRead tree notes waiting line text (Ok next) → IsLineRead tree notes waiting line text read → read ≡ Ok next
 one_line tree notes next waiting line text read h g =
     same_way (is_skipped text) (Ok next ≡ Ok notes) (IsSaidRead tree notes waiting line (line_said (words_of text)) (Ok next)) (read ≡ Ok notes) (IsSaidRead tree notes waiting line (line_said (words_of text)) read) (read ≡ Ok next)
-    (λ p q. q ∙ sym p) (λ p q. one_read tree notes next waiting line (line_said (words_of text)) read p q) ((line_same tree notes waiting line text (Ok next)).1 h) ((line_same tree notes waiting line text read).1 g)
+    (λ p q. q ∙ sym p) (λ p q. one_read tree notes next waiting line (line_said (words_of text)) read p q) (h) g
 
 lines_one : (tree : List Node) (texts : List (List ℕ)) (line : ℕ) (notes : Notes) (course : Course) (read : Result Course (At ScriptCause)) → AreLinesRead tree texts line notes (Ok course) → AreLinesRead tree texts line notes read
     → read ≡ Ok course

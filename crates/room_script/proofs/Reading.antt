@@ -17,7 +17,7 @@ use Rattle.room_script.specs.Lines.{LinesEnd, LinesFollow}
 use Rattle.std.specs.Option.{option_copied}
 use Rattle.room_script.specs.declared.sending.HandedIn.{HandedIn}
 use Rattle.room_script.specs.Sending.{Handed, handed_as, handed_in, IsFrameRead}
-use Rattle.room_script.specs.Script.{Notes, time_of, send_read, course_at_end, IsHandedRead, AreLinesRead, GivesNotes, Gives}
+use Rattle.room_script.specs.Script.{Notes, send_read, course_at_end, IsHandedRead, AreLinesRead, GivesNotes, Gives}
 
 pub text_of-words_of : (text : List ℕ) → text_of (words_of text) ≡ text
 text_of-words_of text = join_with_byte-slice_split 32 text
@@ -56,15 +56,14 @@ abbrev pub IsHanded : HandedIn → List (List ℕ) → Type 0
 IsHanded h rest = handed_as h ≡ handed_in rest
 
 -- a frame that is handed in after a name
-pub gives_send : (tree : List Node) (notes now : Notes) (line : ℕ) (time name timed named : List ℕ) (rest left : List (List ℕ)) (h : HandedIn) (frame word : List ℕ) (others : List (List ℕ)) (result : Result Unit ScriptLineError)
-    (instant device : Option ℕ) (names : Option (Option HeaderNames)) (r : Result (List ℕ) (AtWord ScriptCause)) → timed ≡ time → named ≡ name → left ≡ rest → IsHanded h left → words_after (option_copied h.frame) ≡ words_of frame
-    → words_of frame ≡ word ∷ others → instant ≡ time_of timed → device ≡ device_named tree named → names ≡ header_names tree word → IsFrameRead h.at (words_of frame) r
+pub gives_send : (tree : List Node) (notes now : Notes) (line : ℕ) (time : Option ℕ) (name named : List ℕ) (rest left : List (List ℕ)) (h : HandedIn) (frame word : List ℕ) (others : List (List ℕ)) (result : Result Unit ScriptLineError)
+    (instant device : Option ℕ) (names : Option (Option HeaderNames)) (r : Result (List ℕ) (AtWord ScriptCause)) → named ≡ name → left ≡ rest → IsHanded h left → words_after (option_copied h.frame) ≡ words_of frame
+    → words_of frame ≡ word ∷ others → instant ≡ time → device ≡ device_named tree named → names ≡ header_names tree word → IsFrameRead h.at (words_of frame) r
     → GivesNotes now result (send_read notes line h.at instant h.attempts device names r) → Gives now result (IsHandedRead tree notes line time name (handed_in rest).at (handed_in rest).attempts (handed_in rest).words)
-gives_send tree notes now line time name timed named rest left h frame word others result instant device names r at_time of_name are handed_left whole parted same_time same_device same_names is g =
+gives_send tree notes now line time name named rest left h frame word others result instant device names r of_name are handed_left whole parted same_time same_device same_names is g =
     let handed = subst (IsHanded h) are handed_left in
-    let timely : instant ≡ time_of time = same_time ∙ ap time_of at_time in
     let known : device ≡ device_named tree name = same_device ∙ ap (device_named tree) of_name in
-    let same : send_read notes line h.at instant h.attempts device names r ≡ send_read notes line h.at (time_of time) h.attempts (device_named tree name) (header_names tree word) r = cc in
+    let same : send_read notes line h.at instant h.attempts device names r ≡ send_read notes line h.at time h.attempts (device_named tree name) (header_names tree word) r = cc in
     let read = subst (GivesNotes now result) same g in
     let Said : List (List ℕ) → Type 0 = λ w. IsFrameRead h.at w r in
     let By : List (List ℕ) → Type 0 = λ w. Gives now result (IsHandedRead tree notes line time name h.at h.attempts w) in
@@ -73,7 +72,7 @@ gives_send tree notes now line time name timed named rest left h frame word othe
     subst As handed (subst By (sym (whole ∙ parted)) given)
 
 -- where nothing is
-pub none_handed : (tree : List Node) (notes : Notes) (line : ℕ) (time name : List ℕ) (rest left : List (List ℕ)) (h : HandedIn) → left ≡ rest → IsHanded h left → words_after (option_copied h.frame) ≡ []
+pub none_handed : (tree : List Node) (notes : Notes) (line : ℕ) (time : Option ℕ) (name : List ℕ) (rest left : List (List ℕ)) (h : HandedIn) → left ≡ rest → IsHanded h left → words_after (option_copied h.frame) ≡ []
     → IsHandedRead tree notes line time name (handed_in rest).at (handed_in rest).attempts (handed_in rest).words (Err (at_word h.at Word))
 none_handed tree notes line time name rest left h are handed_left none =
     let handed = subst (IsHanded h) are handed_left in

@@ -12,7 +12,7 @@ use Rattle.line_wave.specs.Pulses.{stretch_fault, gap_fault}
 use Rattle.line_wave.specs.Line.{IsWave, IsWaveFrom}
 use Rattle.line_wave.specs.Pulls.{AreTimely}
 use Rattle.line_wave.proofs.Kept.{timely_tested}
-use Rattle.text_forms.specs.Forms.{Meaning, Said as SaidBy, level_at, number_at, port_at, text_at, time_at, time_of_meaning, words_at}
+use Rattle.text_forms.specs.Forms.{Meaning, Said as SaidBy, late_time_at, level_at, number_at, port_at, text_at, time_at, time_of_meaning, words_at}
 use Rattle.text_forms.specs.Forms.Meaning.{Itself, Number as NumberOf, PortOf, PortsOf, Level, KindOf, Text, Words}
 use Rattle.room_lines.specs.declared.script.ScriptVerb.{ScriptVerb}
 use Rattle.room_lines.specs.declared.script.ScriptVerb.TheVariants as verbs
@@ -30,6 +30,7 @@ use Rattle.message_hex.proofs.Spelled.{spellings_are_read}
 use Rattle.message_hex.specs.declared.bytes.DisCause.{DisCause}
 use Rattle.message_hex.specs.declared.bytes.DisCause.TheVariants.{Length}
 use Rattle.room_script.specs.Sending.{frame_read, handed_in, hex_read, IsFrameOf, IsFrameRead, IsTextRead}
+use Rattle.room_script.specs.Keys.{key_said}
 use Rattle.room_script.specs.Header.{is_named, initiator_part, destination_part, has_names, device_of, names_by, header_names, digits_text}
 use Rattle.room_script.specs.Holding.{hold_of}
 use Rattle.device_core.specs.declared.device.Ticket.{Ticket}
@@ -45,9 +46,7 @@ use Rattle.room_script.proofs.Adding.{few_pulses, none_while_low}
 use Rattle.text_core.specs.declared.at.AtWord.{AtWord}
 use Rattle.room_script.specs.declared.script.ScriptCause.{ScriptCause}
 use Rattle.room_script.specs.declared.script.ScriptError.TheVariants as errors
-use Rattle.room_script.specs.Rows.{IsSaid, IsSaidRead, key_said, key_time, line_said, plug_checked}
-use Rattle.room_script.proofs.ByForms.{line_same}
-use Rattle.room_script.specs.Script.{Course, Notes, time_of, last_time, last_end, notes_with_event, unplug_read, key_read, act_read, send_read, frame_event, unless_fault, pulse_refusal, notes_with_pulse, touches, notes_with_pull, is_before, pin_falls, pin_rises, pin_stays_high, pin_stays_low, notes_with_level, pulses_ended, end_read, course_at_end, course_of, no_notes, IsHandedRead, IsLineRead, IsSchedule, AreFramedEvents, IsNoWider, MayFall, IsScript, Onward, AreLinesRead, IsScriptRead, ScriptsAreSound}
+use Rattle.room_script.specs.Script.{IsSaid, IsSaidRead, key_time, line_said, plug_checked, Course, Notes, last_time, last_end, notes_with_event, unplug_checked, key_read, act_read, send_read, frame_event, unless_fault, pulse_refusal, notes_with_pulse, touches, notes_with_pull, is_before, pin_falls, pin_rises, pin_stays_high, pin_stays_low, notes_with_level, pulses_ended, end_checked, course_at_end, course_of, no_notes, IsHandedRead, IsLineRead, IsSchedule, AreFramedEvents, IsNoWider, MayFall, IsScript, Onward, AreLinesRead, IsScriptRead, ScriptsAreSound}
 
 -- ---- times
 
@@ -239,10 +238,9 @@ plug-keeps count notes line time port None parent s hc hp = keeps_err count _ re
 plug-keeps count notes line time port (Some child) None s hc hp = keeps_err count _ refl
 plug-keeps count notes line time port (Some child) (Some parent) s hc hp = scheduled-keeps count notes line time (Plug child parent port) s (hc child refl, hp parent refl) tt
 
-unplug_read-keeps : (count : ℕ) (notes : Notes) (line : ℕ) (time child : Option ℕ) → AreSound count notes → ((i : ℕ) → child ≡ Some i → i < count) → Keeps count (unplug_read notes line time child)
-unplug_read-keeps count notes line None child s hc = keeps_err count _ refl
-unplug_read-keeps count notes line (Some time) None s hc = keeps_err count _ refl
-unplug_read-keeps count notes line (Some time) (Some child) s hc = scheduled-keeps count notes line time (Unplug child) s (hc child refl) tt
+unplug-keeps : (count : ℕ) (notes : Notes) (line time : ℕ) (child : Option ℕ) → AreSound count notes → ((i : ℕ) → child ≡ Some i → i < count) → Keeps count (unplug_checked notes line time child)
+unplug-keeps count notes line time None s hc = keeps_err count _ refl
+unplug-keeps count notes line time (Some child) s hc = scheduled-keeps count notes line time (Unplug child) s (hc child refl) tt
 
 key_read-keeps : (count : ℕ) (notes : Notes) (line : ℕ) (press : Bool) (key : Result KeyValue (AtWord ScriptCause)) (time device : Option ℕ) → AreSound count notes → ((i : ℕ) → device ≡ Some i → i < count) →
     Keeps count (key_read notes line press key time device)
@@ -341,13 +339,13 @@ send_read-keeps count notes line at (Some time) (Some attempts) (Some device) (S
 send_read-keeps count notes line at (Some time) (Some attempts) (Some device) (Some names) (Ok frame) s hd hn hf =
     framed-keeps count notes line time device (record { line = line; attempts = attempts }) names frame s (hd device refl) (hn names refl) (hf frame refl)
 
-handed-keeps : (tree : List Node) (notes : Notes) (line : ℕ) (time name : List ℕ) (at : ℕ) (attempts : Option (Option ℕ)) (words : List (List ℕ)) (next : Notes) → AreSound (length tree) notes
+handed-keeps : (tree : List Node) (notes : Notes) (line : ℕ) (time : Option ℕ) (name : List ℕ) (at : ℕ) (attempts : Option (Option ℕ)) (words : List (List ℕ)) (next : Notes) → AreSound (length tree) notes
     → IsHandedRead tree notes line time name at attempts words (Ok next) → AreSound (length tree) next
 handed-keeps tree notes line time name at attempts [] next s h = cc
 handed-keeps tree notes line time name at attempts (word ∷ words) next s h =
     let Said : Result (List ℕ) (AtWord ScriptCause) → Type 0 = λ r. IsFrameRead at (word ∷ words) r in
-    keeps_next (length tree) (send_read notes line at (time_of time) attempts (device_named tree name) (header_names tree word) h.0) next
-    (send_read-keeps (length tree) notes line at (time_of time) attempts (device_named tree name) (header_names tree word) h.0 s (named-below tree name) (header-below tree word) (λ f e. said_some at (word ∷ words) f (subst Said e h.1))) (sym h.2)
+    keeps_next (length tree) (send_read notes line at time attempts (device_named tree name) (header_names tree word) h.0) next
+    (send_read-keeps (length tree) notes line at time attempts (device_named tree name) (header_names tree word) h.0 s (named-below tree name) (header-below tree word) (λ f e. said_some at (word ∷ words) f (subst Said e h.1))) (sym h.2)
 
 -- one more that is pulled low from outside
 sound_with : (count : ℕ) (notes : Notes) (pulse : Stretch) → AreSound count notes → pulse.from ≤ latest_event → free_after (last_end notes.pulses) ≤ pulse.from → pulse.from < pulse.to → IsNoWider pulse
@@ -485,17 +483,15 @@ sound_ended count notes pulses time s after within = record {
   let_go = λ t h. refl;
 }
 
-end_read-keeps : (count : ℕ) (notes : Notes) (time : Option ℕ) → AreSound count notes → ((t : ℕ) → time ≡ Some t → t ≤ latest_event) → Keeps count (end_read notes time)
-end_read-keeps count notes None s limit = keeps_err count _ refl
-end_read-keeps count notes (Some time) s limit =
+end-keeps : (count : ℕ) (notes : Notes) (time : ℕ) → AreSound count notes → time ≤ latest_event → Keeps count (end_checked notes time)
+end-keeps count notes time s within =
     keeps_if count (is_some notes.end) _ _ (λ e. keeps_err count _ refl)
     (λ unended. keeps_if count (nat_lt 0 (length notes.events) && nat_le time (last_time notes.events)) _ _ (λ e. keeps_err count _ refl)
-    (λ after. keeps_ok count _ (sound_ended count notes (pulses_ended notes.pin notes.pulses time) time (high_again notes.pin refl) after (limit time refl))))
+    (λ after. keeps_ok count _ (sound_ended count notes (pulses_ended notes.pin notes.pulses time) time (high_again notes.pin refl) after within)))
   where
     high_again : (pin : Option ℕ) → notes.pin ≡ pin → AreSound count (record notes { pulses = pulses_ended pin notes.pulses time; pin = None })
     high_again None is = let With : Option ℕ → Type 0 = λ pin. AreSound count (record notes { pin = pin }) in subst With is s
     high_again (Some from) is =
-        let within = limit time refl in
         let fell = (s.held from is).1 in
         sound_risen count notes from (max time (min from latest_event + 1)) s is (omega (arith, fell)) (omega (arith, fell, within))
 
@@ -526,14 +522,14 @@ said-keeps tree notes waiting line verbs.Plug values next s h =
     keeps_next (length tree) (plug_checked notes line (time_at values 1) (port_at values 5) (device_named tree (text_at values 3)) (device_named tree (text_at values 4))) next
     (plug-keeps (length tree) notes line (time_at values 1) (port_at values 5) (device_named tree (text_at values 3)) (device_named tree (text_at values 4)) s (named-below tree (text_at values 3)) (named-below tree (text_at values 4))) (sym h)
 said-keeps tree notes waiting line verbs.Unplug values next s h =
-    keeps_next (length tree) (unplug_read notes line (Some (time_at values 1)) (device_named tree (text_at values 3))) next
-    (unplug_read-keeps (length tree) notes line (Some (time_at values 1)) (device_named tree (text_at values 3)) s (named-below tree (text_at values 3))) (sym h)
+    keeps_next (length tree) (unplug_checked notes line (time_at values 1) (device_named tree (text_at values 3))) next
+    (unplug-keeps (length tree) notes line (time_at values 1) (device_named tree (text_at values 3)) s (named-below tree (text_at values 3))) (sym h)
 said-keeps tree notes waiting line verbs.Send values next s h =
     let handed = handed_in (words_at values 4) in
-    handed-keeps tree notes line (text_at values 1) (text_at values 3) handed.at handed.attempts handed.words next s h
+    handed-keeps tree notes line (late_time_at values 1) (text_at values 3) handed.at handed.attempts handed.words next s h
 said-keeps tree notes waiting line verbs.Hold values next s h =
-    keeps_next (length tree) (act_read notes line (hold_of (text_at values 4)) (time_of (text_at values 1)) (device_named tree (text_at values 3))) next
-    (act_read-keeps (length tree) notes line (hold_of (text_at values 4)) (time_of (text_at values 1)) (device_named tree (text_at values 3)) s (named-below tree (text_at values 3))) (sym h)
+    keeps_next (length tree) (act_read notes line (hold_of (text_at values 4)) (late_time_at values 1) (device_named tree (text_at values 3))) next
+    (act_read-keeps (length tree) notes line (hold_of (text_at values 4)) (late_time_at values 1) (device_named tree (text_at values 3)) s (named-below tree (text_at values 3))) (sym h)
 said-keeps tree notes waiting line verbs.Drop values next s h =
     keeps_next (length tree) (act_read notes line (Some Empty) (Some (time_at values 1)) (device_named tree (text_at values 3))) next
     (act_read-keeps (length tree) notes line (Some Empty) (Some (time_at values 1)) (device_named tree (text_at values 3)) s (named-below tree (text_at values 3))) (sym h)
@@ -546,10 +542,7 @@ said-keeps tree notes waiting line verbs.Pin values next s h =
     keeps_next (length tree) (notes_with_level notes waiting (time_at values 1) notes.pin (level_at values 2)) next
     (level-keeps (length tree) notes waiting (time_at values 1) notes.pin (level_at values 2) s refl (timed values 1)) (sym h)
 said-keeps tree notes waiting line verbs.End values next s h =
-    keeps_next (length tree) (end_read notes (Some (time_at values 1))) next (end_read-keeps (length tree) notes (Some (time_at values 1)) s in_limit) (sym h)
-  where
-    in_limit : (t : ℕ) → Some (time_at values 1) ≡ Some t → t ≤ latest_event
-    in_limit t e = let is : time_at values 1 ≡ t = cc in subst (λ (n : ℕ). n ≤ latest_event) is (timed values 1)
+    keeps_next (length tree) (end_checked notes (time_at values 1)) next (end-keeps (length tree) notes (time_at values 1) s (timed values 1)) (sym h)
 
 form-keeps : (tree : List Node) (notes : Notes) (waiting line : ℕ) (said : SaidBy ScriptVerb) (next : Notes) → AreSound (length tree) notes → IsSaidRead tree notes waiting line said (Ok next) → AreSound (length tree) next
 form-keeps tree notes waiting line (Err fault) next s h = cc
@@ -560,7 +553,7 @@ pub line-keeps : LinesKeepSound
 line-keeps tree notes waiting line text next s h =
     by_cond (is_skipped text) (Ok next ≡ Ok notes) (IsSaidRead tree notes waiting line (line_said (words_of text)) (Ok next)) (AreSound (length tree) next)
     (λ p. keeps_next (length tree) (Ok notes) next (keeps_ok (length tree) notes s) (sym p))
-    (λ q. form-keeps tree notes waiting line (line_said (words_of text)) next s q) ((line_same tree notes waiting line text (Ok next)).1 h)
+    (λ q. form-keeps tree notes waiting line (line_said (words_of text)) next s q) (h)
 
 -- pulls in order that begin early enough and are no wider than they may be
 timely : (pulses : List Stretch) → length pulses ≤ most_pulls → IsWave pulses → All IsNoWider pulses → All IsEarly pulses → AreTimely pulses

@@ -9,22 +9,16 @@ use Rattle.message_table.specs.declared.user_control.UserControl.{UserControl}
 use Rattle.message_table.specs.WordSets.{words_of, NamedByte as OperandWord}
 use Rattle.message_table.specs.declared.word_set.WordSet.TheVariants as sets
 use Rattle.device_features.specs.declared.keys.Key.{Key}
-use Rattle.device_features.specs.declared.keys.Key.TheVariants.{Play, Stop, Eject, Load, Menu, Power, Watch, Port, Audio, Arc, Volume, Language, Remote}
+use Rattle.device_features.specs.declared.keys.Key.TheVariants as keys
 use Rattle.device_features.specs.declared.keys.VolumeKey.TheVariants.{Up, Down, Mute}
-use Rattle.device_features.specs.KeyWords.{key_named}
 use Rattle.device_features.specs.declared.key_word.KeyWord.{KeyWord}
 use Rattle.device_features.specs.declared.key_word.KeyWord.TheVariants as key_words
-use Rattle.text_core.specs.Words.{one_of, two_of, three_of}
 use Rattle.text_core.specs.Phys.{digit_value, is_hex_digit, phys_of}
-use Rattle.text_core.specs.Number.{number_of}
-use Rattle.room_script.specs.Fault.{misfit}
 use Rattle.text_core.specs.At.{at_word}
+use Rattle.text_forms.specs.Forms.{Meaning, level_at, port_at, text_at}
 use Rattle.text_core.specs.declared.at.AtWord.{AtWord}
 use Rattle.room_script.specs.declared.script.ScriptCause.{ScriptCause}
-use Rattle.room_script.specs.declared.script.ScriptCause.TheVariants.{Word, Number}
-
-abbrev pub switch_of : List ℕ → Option Bool
-switch_of word = if bytes_eq word (codes "on") then Some true else if bytes_eq word (codes "off") then Some false else None
+use Rattle.room_script.specs.declared.script.ScriptCause.TheVariants.{Word}
 
 -- three letters
 abbrev pub language_of : List ℕ → Option Triple
@@ -51,86 +45,31 @@ code_of word = byte_in (words_of sets.UserControl) word
 abbrev pub control_of : List ℕ → Option UserControl
 control_of word = option_map user_control_at (code_of word)
 
--- how many words stand after a key's first one
-abbrev pub values_of : KeyWord → ℕ
-values_of key_words.Watch = 1
-values_of key_words.Port = 1
-values_of key_words.Language = 1
-values_of key_words.Audio = 1
-values_of key_words.Arc = 1
-values_of key_words.Remote = 2
-values_of _ = 0
-
--- a key's first word is the line's fifth, after `at T press NAME`
-abbrev pub unfit_by : Option KeyWord → ℕ → AtWord ScriptCause
-unfit_by None count = at_word 4 Word
-unfit_by (Some word) count = misfit 5 count (values_of word)
-
--- words that are no key: the first one, where no key has it, and else the first value that is missing or too many
-abbrev pub unfit : List (List ℕ) → AtWord ScriptCause
-unfit [] = at_word 4 Word
-unfit (word ∷ values) = unfit_by (key_named word) (length values)
-
--- the keys of one word
-abbrev pub key_alone : AtWord ScriptCause → KeyWord → Result Key (AtWord ScriptCause)
-key_alone fault key_words.Play = Ok Play
-key_alone fault key_words.Stop = Ok Stop
-key_alone fault key_words.Eject = Ok Eject
-key_alone fault key_words.Load = Ok Load
-key_alone fault key_words.Menu = Ok Menu
-key_alone fault key_words.Power = Ok Power
-key_alone fault key_words.VolumeUp = Ok (Volume Up)
-key_alone fault key_words.VolumeDown = Ok (Volume Down)
-key_alone fault key_words.Mute = Ok (Volume Mute)
-key_alone fault _ = Err fault
-
 -- a value is a key's, or none's
 abbrev pub key_or_cause : Option Key → Result Key (AtWord ScriptCause)
 key_or_cause None = Err (at_word 5 Word)
 key_or_cause (Some key) = Ok key
 
--- a port above 255 counts as 255
-abbrev pub port_key : Option ℕ → Result Key (AtWord ScriptCause)
-port_key None = Err (at_word 5 Number)
-port_key (Some port) = Ok (Port (min port 255))
-
--- `watch PA`, `port N`, `audio on`, `audio off`, `arc on`, `arc off`, `language LLL`
-abbrev pub key_with : AtWord ScriptCause → KeyWord → List ℕ → Result Key (AtWord ScriptCause)
-key_with fault key_words.Watch value = key_or_cause (option_map Watch (phys_of value))
-key_with fault key_words.Port value = port_key (number_of value)
-key_with fault key_words.Audio value = key_or_cause (option_map Audio (switch_of value))
-key_with fault key_words.Arc value = key_or_cause (option_map Arc (switch_of value))
-key_with fault key_words.Language value = key_or_cause (option_map Language (language_of value))
-key_with fault _ value = Err fault
-
 -- `remote D CODE`
 abbrev pub remote_by : Option ℕ → Option UserControl → Result Key (AtWord ScriptCause)
 remote_by None code = Err (at_word 5 Word)
 remote_by (Some to) None = Err (at_word 6 Word)
-remote_by (Some to) (Some code) = Ok (Remote to code)
+remote_by (Some to) (Some code) = Ok (keys.Remote to code)
 
-abbrev pub remote_key : AtWord ScriptCause → KeyWord → List ℕ → List ℕ → Result Key (AtWord ScriptCause)
-remote_key fault key_words.Remote to code = remote_by (destination_of to) (control_of code)
-remote_key fault _ to code = Err fault
-
-abbrev pub of_one : AtWord ScriptCause → Option KeyWord → Result Key (AtWord ScriptCause)
-of_one fault None = Err fault
-of_one fault (Some word) = key_alone fault word
-
-abbrev pub of_two : AtWord ScriptCause → Option KeyWord → List ℕ → Result Key (AtWord ScriptCause)
-of_two fault None value = Err fault
-of_two fault (Some word) value = key_with fault word value
-
-abbrev pub of_three : AtWord ScriptCause → Option KeyWord → List ℕ → List ℕ → Result Key (AtWord ScriptCause)
-of_three fault None to code = Err fault
-of_three fault (Some word) to code = remote_key fault word to code
-
-abbrev pub key_by : AtWord ScriptCause → Option (List ℕ) → Option (List ℕ × List ℕ) → Option (List ℕ × List ℕ × List ℕ) → Result Key (AtWord ScriptCause)
-key_by fault (Some word) two three = of_one fault (key_named word)
-key_by fault None (Some words) three = of_two fault (key_named words.0) words.1
-key_by fault None None (Some words) = of_three fault (key_named words.0) words.1 words.2
-key_by fault None None None = Err fault
-
--- the key of some words, or the first cause for which they are none
-abbrev pub key_of : List (List ℕ) → Result Key (AtWord ScriptCause)
-key_of words = key_by (unfit words) (one_of words) (two_of words) (three_of words)
+-- the key that the values of its form say
+abbrev pub key_said : KeyWord → List Meaning → Result Key (AtWord ScriptCause)
+key_said key_words.Play values = Ok keys.Play
+key_said key_words.Stop values = Ok keys.Stop
+key_said key_words.Eject values = Ok keys.Eject
+key_said key_words.Load values = Ok keys.Load
+key_said key_words.Menu values = Ok keys.Menu
+key_said key_words.Power values = Ok keys.Power
+key_said key_words.VolumeUp values = Ok (keys.Volume Up)
+key_said key_words.VolumeDown values = Ok (keys.Volume Down)
+key_said key_words.Mute values = Ok (keys.Volume Mute)
+key_said key_words.Port values = Ok (keys.Port (port_at values 5))
+key_said key_words.Watch values = key_or_cause (option_map keys.Watch (phys_of (text_at values 5)))
+key_said key_words.Language values = key_or_cause (option_map keys.Language (language_of (text_at values 5)))
+key_said key_words.Audio values = Ok (keys.Audio (level_at values 5))
+key_said key_words.Arc values = Ok (keys.Arc (level_at values 5))
+key_said key_words.Remote values = remote_by (destination_of (text_at values 5)) (control_of (text_at values 6))

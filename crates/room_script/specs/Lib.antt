@@ -1,9 +1,7 @@
-pub mod Fault
 pub mod Keys
 pub mod Header
 pub mod Holding
 pub mod Topology
 pub mod Script
 pub mod Sending
-pub mod Rows
 pub mod Lines

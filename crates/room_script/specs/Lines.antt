@@ -1,16 +1,26 @@
 -- What holds of the notes of a script line by line.
-use Rattle.std.specs.Prelude.{◌≡◌, ℕ, ◌+◌, ◌≤◌, true, List, [], ◌∷◌, ◌++◌, length, max, Option, Some, None, Result, Ok, IfOk, All}
+use Rattle.std.specs.Prelude.{◌≡◌, ℕ, ◌+◌, ◌≤◌, Bool, true, codes, List, [], ◌∷◌, ◌++◌, get_or, length, map, max, Option, Some, None, Result, Ok, IfOk, All}
 use Rattle.line_wave.specs.declared.Stretch.{Stretch}
 use Rattle.line_wave.specs.Line.{IsWave}
 use Rattle.line_wave.specs.Pulls.{are_timely}
 use Rattle.line_wave.specs.Bounds.{latest_event, most_pulls, most_pulses}
+use Rattle.std.specs.Str.{bytes_eq}
+use Rattle.text_core.specs.Number.{number_of}
+use Rattle.text_forms.specs.Forms.{Meaning, Place, is_whole, late_time_at, read_by, time_at}
+use Rattle.room_lines.specs.Script.{script_rows}
+use Rattle.room_lines.specs.declared.script.ScriptVerb.{ScriptVerb}
+use Rattle.room_lines.specs.declared.script.ScriptVerb.TheVariants as verbs
+use Rattle.device_features.specs.KeyWords.{key_text, word_of_key}
+use Rattle.device_features.specs.declared.key_word.KeyWord.{KeyWord}
+use Rattle.device_features.specs.declared.keys.Key.{Key}
+use Rattle.room_script.specs.Keys.{key_said}
 use Rattle.edid_tree.specs.Node.{Node}
 use Rattle.room_script.specs.declared.script.TimedEvent.{TimedEvent}
 use Rattle.text_core.specs.declared.at.At.{At}
 use Rattle.room_script.specs.declared.script.ScriptCause.{ScriptCause}
 use Rattle.room_script.specs.declared.course.Script.{Script}
 use Rattle.room_script.specs.declared.script.ScriptError.{ScriptError}
-use Rattle.room_script.specs.Script.{Course, Notes, course_at_end, course_of, last_time, no_notes, AreFramedEvents, AreLinesRead, GivesCourse, GivesScript, IsLineRead, IsNoWider, IsSchedule, IsScript, IsScriptRead, MayFall}
+use Rattle.room_script.specs.Script.{Course, Notes, course_at_end, course_of, last_time, no_notes, AreFramedEvents, AreLinesRead, GivesCourse, GivesScript, IsLineRead, IsNoWider, IsSchedule, IsScript, IsScriptRead, MayFall, key_time, line_said}
 
 -- ---- what the lines so far keep
 
@@ -94,3 +104,53 @@ LinesEnd = (tree : List Node) (texts : List (List ℕ)) (line : ℕ) (notes : No
 abbrev pub AnswersAreGiven : Type 0
 AnswersAreGiven = (tree : List Node) (text : List ℕ) (read : Result Course (At ScriptCause)) (answer : Result Script ScriptError) → IsScriptRead tree text read → GivesCourse answer read
     → GivesScript tree text answer × IfOk answer (λ script. IsScript (length tree) (course_of script))
+
+-- ---- keys
+
+-- the key that the values of a form say is one of its word
+abbrev pub KeysHaveTheirWords : Type 0
+KeysHaveTheirWords = (word : KeyWord) (values : List Meaning) (key : Key) → key_said word values ≡ Ok key → word_of_key key ≡ word
+
+-- that word stands in the form, after the name
+abbrev pub names_word : ScriptVerb → List ℕ → Bool
+names_word (verbs.Press word) text = bytes_eq (key_text word) text
+names_word (verbs.Release word) text = bytes_eq (key_text word) text
+names_word _ text = true
+
+abbrev pub names_key : ScriptVerb × List Place → Bool
+names_key row = names_word row.0 (get_or (map (λ p. p.1) row.1) 4 [])
+
+-- ---- forms
+
+-- a row of the table, all of whose words a line has, and by which it is read
+pub record IsOfRow (words : List (List ℕ)) (verb : ScriptVerb) (values : List Meaning) : Type 0 where
+  pub before : List (ScriptVerb × List Place)
+  pub form : List Place
+  pub after : List (ScriptVerb × List Place)
+  pub row_is : script_rows ≡ before ++ (verb, form) ∷ after
+  pub whole : is_whole form words ≡ true
+  pub read : read_by verb form words ≡ Ok (verb, values)
+
+-- a line that is read is one of a row
+abbrev pub LinesAreOfRows : Type 0
+LinesAreOfRows = (words : List (List ℕ)) (verb : ScriptVerb) (values : List Meaning) → line_said words ≡ Ok (verb, values) → IsOfRow words verb values
+
+-- the first word of a row, and the time that its values say
+abbrev pub first_of : ScriptVerb → List ℕ
+first_of verbs.Pulse = codes "pulse"
+first_of verbs.Pull = codes "pull"
+first_of verbs.Pin = codes "pin"
+first_of verbs.End = codes "end"
+first_of _ = codes "at"
+
+abbrev pub time_said : ScriptVerb → List Meaning → Option ℕ
+time_said (verbs.Press word) values = key_time word values
+time_said (verbs.Release word) values = key_time word values
+time_said verbs.Send values = late_time_at values 1
+time_said verbs.Hold values = late_time_at values 1
+time_said _ values = Some (time_at values 1)
+
+-- a line that is read begins with the row's word, and then with that time
+abbrev pub LinesBeginSo : Type 0
+LinesBeginSo = (words : List (List ℕ)) (verb : ScriptVerb) (values : List Meaning) (time : ℕ) → line_said words ≡ Ok (verb, values) → time_said verb values ≡ Some time
+    → (word : List ℕ) × (others : List (List ℕ)) × (words ≡ first_of verb ∷ word ∷ others) × (number_of word ≡ Some time)

@@ -1,7 +1,6 @@
--- Texts of scripts (own): lines `at T EVENT`, `pulse T WIDTH`, `pull T WIDTH`, `pin T LEVEL`, and last `end T`. Of the causes that apply
--- to a line it has the first in the order of `ScriptCause`.
+-- Texts of scripts (own): lines of the forms of room_lines, and what they mean for a network. Of the causes that apply to a line it has
+-- the first in the order of `ScriptCause`: where a word has a cause of its own that comes before that of the time, the time is read here.
 use Rattle.std.specs.Prelude.{◌≡◌, ℕ, ◌+◌, ◌-◌, ◌<◌, ◌≤◌, ◌==◌, ◌&&◌, ◌||◌, Bool, true, false, cond, codes, length, max, min, List, [], ◌∷◌, ◌++◌, nat_lt, nat_le, slice_get, if◌then◌else◌, Option, Some, None, is_some, option_map, Result, Ok, Err, All}
-use Rattle.std.specs.Str.{bytes_eq}
 use Rattle.std.specs.Option.{option_map_or}
 use Rattle.line_wave.specs.declared.Stretch.{Stretch}
 use Rattle.line_wave.specs.declared.PulsesError.{PulsesError}
@@ -10,16 +9,23 @@ use Rattle.line_wave.specs.Pulses.{first_of, stretch_fault}
 use Rattle.line_wave.specs.Pulls.{AreTimely}
 use Rattle.line_wave.specs.Bounds.{latest_event, most_pulses, most_pulls, widest_pull}
 use Rattle.device_features.specs.declared.keys.Key.{Key as KeyValue}
+use Rattle.device_features.specs.declared.key_word.KeyWord.{KeyWord}
+use Rattle.device_features.specs.declared.key_word.KeyWord.TheVariants as key_words
+use Rattle.text_forms.specs.Forms.{Meaning, Said, late_time_at, level_at, line_of, number_at, port_at, text_at, time_at, words_at}
+use Rattle.text_forms.specs.declared.form.LineCause.{LineCause}
+use Rattle.text_forms.specs.declared.form.LineCause.TheVariants as causes
+use Rattle.room_lines.specs.Script.{script_rows}
+use Rattle.room_lines.specs.declared.script.ScriptVerb.{ScriptVerb}
+use Rattle.room_lines.specs.declared.script.ScriptVerb.TheVariants as verbs
 use Rattle.edid_tree.specs.Node.{Node}
 use Rattle.edid_tree.specs.Tree.{device_named}
 use Rattle.message_text.specs.Causes.{assemble_cause}
 use Rattle.text_core.specs.Lines.{lines_of, is_skipped}
-use Rattle.text_core.specs.Words.{words_of, one_of, two_of, three_of}
+use Rattle.text_core.specs.Words.{words_of}
 use Rattle.text_core.specs.Number.{number_of}
-use Rattle.room_script.specs.Fault.{misfit}
 use Rattle.text_core.specs.At.{at_line, at_word}
 use Rattle.text_core.specs.declared.at.At.{At}
-use Rattle.room_script.specs.Keys.{key_of}
+use Rattle.room_script.specs.Keys.{key_said}
 use Rattle.room_script.specs.Sending.{handed_in, IsFrameRead}
 use Rattle.room_script.specs.Header.{header_names}
 use Rattle.room_script.specs.Holding.{hold_of}
@@ -98,72 +104,36 @@ notes_with_event notes line time event =
     else if is_some notes.end then Err (at_word 0 End)
     else Ok (record notes { events = notes.events ++ record { line = line; at = time; event = event } ∷ [] })
 
--- `at T plug CHILD PARENT PORT`, with what its words say; a port above 255 counts as 255
-abbrev pub plug_read : Notes → ℕ → Option ℕ → Option ℕ → Option ℕ → Option ℕ → Result Notes (AtWord ScriptCause)
-plug_read notes line None port child parent = Err (at_word 1 Number)
-plug_read notes line (Some time) None child parent = Err (at_word 5 Number)
-plug_read notes line (Some time) (Some port) None parent = Err (at_word 3 Name)
-plug_read notes line (Some time) (Some port) (Some child) None = Err (at_word 4 Name)
-plug_read notes line (Some time) (Some port) (Some child) (Some parent) = notes_with_event notes line time (Plug child parent (min port 255))
+-- a plug, of a child and a parent that are there
+abbrev pub plug_checked : Notes → ℕ → ℕ → ℕ → Option ℕ → Option ℕ → Result Notes (AtWord ScriptCause)
+plug_checked notes line time port None parent = Err (at_word 3 Name)
+plug_checked notes line time port (Some child) None = Err (at_word 4 Name)
+plug_checked notes line time port (Some child) (Some parent) = notes_with_event notes line time (Plug child parent port)
 
-abbrev pub plug_words : List Node → Notes → ℕ → List ℕ → ℕ → Option (List ℕ × List ℕ × List ℕ) → Result Notes (AtWord ScriptCause)
-plug_words tree notes line time count None = Err (misfit 3 count 3)
-plug_words tree notes line time count (Some words) =
-    plug_read notes line (time_of time) (number_of words.2) (device_named tree words.0) (device_named tree words.1)
+abbrev pub unplug_checked : Notes → ℕ → ℕ → Option ℕ → Result Notes (AtWord ScriptCause)
+unplug_checked notes line time None = Err (at_word 3 Name)
+unplug_checked notes line time (Some child) = notes_with_event notes line time (Unplug child)
 
--- `at T unplug CHILD`
-abbrev pub unplug_read : Notes → ℕ → Option ℕ → Option ℕ → Result Notes (AtWord ScriptCause)
-unplug_read notes line None child = Err (at_word 1 Number)
-unplug_read notes line (Some time) None = Err (at_word 3 Name)
-unplug_read notes line (Some time) (Some child) = notes_with_event notes line time (Unplug child)
-
-abbrev pub unplug_words : List Node → Notes → ℕ → List ℕ → ℕ → Option (List ℕ) → Result Notes (AtWord ScriptCause)
-unplug_words tree notes line time count None = Err (misfit 3 count 1)
-unplug_words tree notes line time count (Some word) = unplug_read notes line (time_of time) (device_named tree word)
-
--- `at T press NAME KEY`, `at T release NAME KEY`
+-- a key that goes down or comes up
 abbrev pub key_read : Notes → ℕ → Bool → Result KeyValue (AtWord ScriptCause) → Option ℕ → Option ℕ → Result Notes (AtWord ScriptCause)
 key_read notes line press (Err fault) time device = Err fault
 key_read notes line press (Ok key) None device = Err (at_word 1 Number)
 key_read notes line press (Ok key) (Some time) None = Err (at_word 3 Name)
 key_read notes line press (Ok key) (Some time) (Some device) = notes_with_event notes line time (Key device key press)
 
-abbrev pub key_words : List Node → Notes → ℕ → Bool → List ℕ → List (List ℕ) → Result Notes (AtWord ScriptCause)
-key_words tree notes line press time [] = Err (at_word 3 Word)
-key_words tree notes line press time (name ∷ words) = key_read notes line press (key_of words) (time_of time) (device_named tree name)
-
--- `at T hold NAME ADDRS`, `at T drop NAME`
+-- what a device from outside does
 abbrev pub act_read : Notes → ℕ → Option Act → Option ℕ → Option ℕ → Result Notes (AtWord ScriptCause)
 act_read notes line None time device = Err (at_word 4 Word)
 act_read notes line (Some act) None device = Err (at_word 1 Number)
 act_read notes line (Some act) (Some time) None = Err (at_word 3 Name)
 act_read notes line (Some act) (Some time) (Some device) = notes_with_event notes line time (Outside device act)
 
-abbrev pub hold_words : List Node → Notes → ℕ → List ℕ → ℕ → Option (List ℕ × List ℕ) → Result Notes (AtWord ScriptCause)
-hold_words tree notes line time count None = Err (misfit 3 count 2)
-hold_words tree notes line time count (Some words) = act_read notes line (hold_of words.1) (time_of time) (device_named tree words.0)
-
-abbrev pub drop_words : List Node → Notes → ℕ → List ℕ → ℕ → Option (List ℕ) → Result Notes (AtWord ScriptCause)
-drop_words tree notes line time count None = Err (misfit 3 count 1)
-drop_words tree notes line time count (Some word) = act_read notes line (Some Empty) (time_of time) (device_named tree word)
-
--- the events whose words say all
-abbrev pub event_words : List Node → Notes → ℕ → List ℕ → List ℕ → List (List ℕ) → Result Notes (AtWord ScriptCause)
-event_words tree notes line time verb words =
-    if bytes_eq verb (codes "plug") then plug_words tree notes line time (length words) (three_of words)
-    else if bytes_eq verb (codes "unplug") then unplug_words tree notes line time (length words) (one_of words)
-    else if bytes_eq verb (codes "press") then key_words tree notes line true time words
-    else if bytes_eq verb (codes "release") then key_words tree notes line false time words
-    else if bytes_eq verb (codes "hold") then hold_words tree notes line time (length words) (two_of words)
-    else if bytes_eq verb (codes "drop") then drop_words tree notes line time (length words) (one_of words)
-    else Err (at_word 2 Word)
-
 -- a frame that is handed in, with its line and how many attempts it has, and the names in its header, where there are some
 abbrev pub frame_event : ℕ → Ticket → Option HeaderNames → List ℕ → Event
 frame_event device ticket None frame = Send device frame ticket
 frame_event device ticket (Some names) frame = SendNamed device names frame ticket
 
--- `at T send NAME FRAME`, `at T send NAME attempts N FRAME`; the frame is all that stands after, and its first word has this number
+-- what is handed in: the first word of the frame has this number
 abbrev pub send_read : Notes → ℕ → ℕ → Option ℕ → Option (Option ℕ) → Option ℕ → Option (Option HeaderNames) → Result (List ℕ) (AtWord ScriptCause) → Result Notes (AtWord ScriptCause)
 send_read notes line at None attempts device names frame = Err (at_word 1 Number)
 send_read notes line at (Some time) None device names frame = Err (at_word 5 Number)
@@ -173,24 +143,12 @@ send_read notes line at (Some time) (Some attempts) (Some device) (Some names) (
 send_read notes line at (Some time) (Some attempts) (Some device) (Some names) (Ok frame) = notes_with_event notes line time (frame_event device (record { line = line; attempts = attempts }) names frame)
 
 -- what is handed in after the name; where a frame's text has names in its header, they stand in its first word
-abbrev pub IsHandedRead : List Node → Notes → ℕ → List ℕ → List ℕ → ℕ → Option (Option ℕ) → List (List ℕ) → Result Notes (AtWord ScriptCause) → Type 0
+abbrev pub IsHandedRead : List Node → Notes → ℕ → Option ℕ → List ℕ → ℕ → Option (Option ℕ) → List (List ℕ) → Result Notes (AtWord ScriptCause) → Type 0
 IsHandedRead tree notes line time name at attempts [] read = read ≡ Err (at_word at Word)
 IsHandedRead tree notes line time name at attempts (word ∷ words) read =
     (frame : Result (List ℕ) (AtWord ScriptCause))
     × IsFrameRead at (word ∷ words) frame
-    × (read ≡ send_read notes line at (time_of time) attempts (device_named tree name) (header_names tree word) frame)
-
-abbrev pub IsSendRead : List Node → Notes → ℕ → List ℕ → List (List ℕ) → Result Notes (AtWord ScriptCause) → Type 0
-IsSendRead tree notes line time [] read = read ≡ Err (at_word 3 Word)
-IsSendRead tree notes line time (name ∷ words) read =
-    IsHandedRead tree notes line time name (handed_in words).at (handed_in words).attempts (handed_in words).words read
-
--- the words after `at`
-abbrev pub IsEventRead : List Node → Notes → ℕ → List (List ℕ) → Result Notes (AtWord ScriptCause) → Type 0
-IsEventRead tree notes line [] read = read ≡ Err (at_word 1 Word)
-IsEventRead tree notes line (time ∷ []) read = read ≡ Err (at_word 2 Word)
-IsEventRead tree notes line (time ∷ verb ∷ words) read =
-    cond {A = Type 0} (bytes_eq verb (codes "send")) (IsSendRead tree notes line time words read) (read ≡ event_words tree notes line time verb words)
+    × (read ≡ send_read notes line at time attempts (device_named tree name) (header_names tree word) frame)
 
 -- ---- pulses, pulls, the pin and the end
 
@@ -221,23 +179,9 @@ pulse_refusal (Some from) before pulse = first_of (stretch_fault None pulse) (So
 abbrev pub notes_with_pulse : Notes → ℕ → Stretch → Result Notes (AtWord ScriptCause)
 notes_with_pulse notes waiting pulse = unless_fault (pulse_refusal notes.pin (last_end notes.pulses) pulse) notes waiting pulse
 
--- the time and the width of a pulse or pull
-abbrev pub span_read : Option ℕ → Option ℕ → Result (ℕ × ℕ) (AtWord ScriptCause)
-span_read None width = Err (at_word 1 Number)
-span_read (Some time) None = Err (at_word 2 Number)
-span_read (Some time) (Some width) = Ok (time, width)
-
-abbrev pub span_words : ℕ → Option (List ℕ × List ℕ) → Result (ℕ × ℕ) (AtWord ScriptCause)
-span_words count None = Err (misfit 1 count 2)
-span_words count (Some words) = span_read (time_of words.0) (number_of words.1)
-
--- `pulse T WIDTH`; a width above 65,535 counts as 65,535
-abbrev pub pulse_read : Notes → ℕ → Result (ℕ × ℕ) (AtWord ScriptCause) → Result Notes (AtWord ScriptCause)
-pulse_read notes waiting (Err fault) = Err fault
-pulse_read notes waiting (Ok span) = notes_with_pulse notes waiting (record { from = span.0; to = span.0 + min span.1 65535 })
-
-abbrev pub pulse_words : Notes → ℕ → ℕ → Option (List ℕ × List ℕ) → Result Notes (AtWord ScriptCause)
-pulse_words notes waiting count words = pulse_read notes waiting (span_words count words)
+-- a width above 65,535 counts as 65,535
+abbrev pub pulse_of : ℕ → ℕ → Stretch
+pulse_of time width = record { from = time; to = time + min width 65535 }
 
 -- whether a pull from an instant on would overlap or touch one that ends so
 abbrev pub touches : Option ℕ → ℕ → Bool
@@ -253,18 +197,6 @@ notes_with_pull notes waiting time width =
     else if nat_le most_pulls waiting then Err (at_word 0 TooMany)
     else if is_some notes.end then Err (at_word 0 End)
     else Ok (record notes { pulses = notes.pulses ++ record { from = time; to = time + width } ∷ [] })
-
--- `pull T WIDTH`
-abbrev pub pull_read : Notes → ℕ → Result (ℕ × ℕ) (AtWord ScriptCause) → Result Notes (AtWord ScriptCause)
-pull_read notes waiting (Err fault) = Err fault
-pull_read notes waiting (Ok span) = notes_with_pull notes waiting span.0 span.1
-
-abbrev pub pull_words : Notes → ℕ → ℕ → Option (List ℕ × List ℕ) → Result Notes (AtWord ScriptCause)
-pull_words notes waiting count words = pull_read notes waiting (span_words count words)
-
--- `0` is low, `1` is high
-abbrev pub level_of : List ℕ → Option Bool
-level_of word = if bytes_eq word (codes "0") then Some false else if bytes_eq word (codes "1") then Some true else None
 
 -- the pin goes low: its pull neither overlaps nor touches the last pulse or pull, is one of at most 16,384 with those that wait, and
 -- no `end` stands above it
@@ -303,54 +235,66 @@ notes_with_level notes waiting time None true = pin_stays_high notes time
 notes_with_level notes waiting time (Some from) false = pin_stays_low notes from time
 notes_with_level notes waiting time (Some from) true = pin_rises notes from time
 
--- `pin T LEVEL`: a device's own pin as it changes level
-abbrev pub pin_read : Notes → ℕ → Option ℕ → Option Bool → Result Notes (AtWord ScriptCause)
-pin_read notes waiting None level = Err (at_word 1 Number)
-pin_read notes waiting (Some time) None = Err (at_word 2 Number)
-pin_read notes waiting (Some time) (Some level) = notes_with_level notes waiting time notes.pin level
-
-abbrev pub pin_words : Notes → ℕ → ℕ → Option (List ℕ × List ℕ) → Result Notes (AtWord ScriptCause)
-pin_words notes waiting count None = Err (misfit 1 count 2)
-pin_words notes waiting count (Some words) = pin_read notes waiting (time_of words.0) (level_of words.1)
-
 -- the end lets the pin go, a microsecond after it went low at the earliest; it went low at a time of a script
 abbrev pub pulses_ended : Option ℕ → List Stretch → ℕ → List Stretch
 pulses_ended None pulses time = pulses
 pulses_ended (Some from) pulses time = pulses ++ record { from = from; to = max time (min from latest_event + 1) } ∷ []
 
--- `end T`: one alone, after every event
-abbrev pub end_read : Notes → Option ℕ → Result Notes (AtWord ScriptCause)
-end_read notes None = Err (at_word 1 Number)
-end_read notes (Some time) =
+-- one end alone, after every event
+abbrev pub end_checked : Notes → ℕ → Result Notes (AtWord ScriptCause)
+end_checked notes time =
     if is_some notes.end then Err (at_word 0 End)
     else if nat_lt 0 (length notes.events) && nat_le time (last_time notes.events) then Err (at_word 1 End)
     else Ok (record notes { pulses = pulses_ended notes.pin notes.pulses time; end = Some time; pin = None })
 
-abbrev pub end_words : Notes → ℕ → Option (List ℕ) → Result Notes (AtWord ScriptCause)
-end_words notes count None = Err (misfit 1 count 1)
-end_words notes count (Some word) = end_read notes (time_of word)
-
 -- ---- lines
 
--- the lines that are no events
-abbrev pub other_words : Notes → ℕ → List ℕ → List (List ℕ) → Result Notes (AtWord ScriptCause)
-other_words notes waiting verb words =
-    if bytes_eq verb (codes "pulse") then pulse_words notes waiting (length words) (two_of words)
-    else if bytes_eq verb (codes "pull") then pull_words notes waiting (length words) (two_of words)
-    else if bytes_eq verb (codes "pin") then pin_words notes waiting (length words) (two_of words)
-    else if bytes_eq verb (codes "end") then end_words notes (length words) (one_of words)
-    else Err (at_word 0 Word)
+-- the time of a key's line
+abbrev pub key_time : KeyWord → List Meaning → Option ℕ
+key_time key_words.Watch values = late_time_at values 1
+key_time key_words.Language values = late_time_at values 1
+key_time key_words.Remote values = late_time_at values 1
+key_time _ values = Some (time_at values 1)
 
--- a line by its words
-abbrev pub IsWordsRead : List Node → Notes → ℕ → ℕ → List (List ℕ) → Result Notes (AtWord ScriptCause) → Type 0
-IsWordsRead tree notes waiting line [] read = read ≡ Err (at_word 0 Word)
-IsWordsRead tree notes waiting line (verb ∷ words) read =
-    cond {A = Type 0} (bytes_eq verb (codes "at")) (IsEventRead tree notes line words read) (read ≡ other_words notes waiting verb words)
+-- a frame that is handed in, with what may stand before it
+abbrev pub IsSendSaid : List Node → Notes → ℕ → List Meaning → Result Notes (AtWord ScriptCause) → Type 0
+IsSendSaid tree notes line values read =
+    IsHandedRead tree notes line (late_time_at values 1) (text_at values 3) (handed_in (words_at values 4)).at (handed_in (words_at values 4)).attempts (handed_in (words_at values 4)).words read
+
+-- what the values of a form make of the notes
+abbrev pub IsSaid : List Node → Notes → ℕ → ℕ → ScriptVerb → List Meaning → Result Notes (AtWord ScriptCause) → Type 0
+IsSaid tree notes waiting line (verbs.Press word) values read = read ≡ key_read notes line true (key_said word values) (key_time word values) (device_named tree (text_at values 3))
+IsSaid tree notes waiting line (verbs.Release word) values read = read ≡ key_read notes line false (key_said word values) (key_time word values) (device_named tree (text_at values 3))
+IsSaid tree notes waiting line verbs.Plug values read =
+    read ≡ plug_checked notes line (time_at values 1) (port_at values 5) (device_named tree (text_at values 3)) (device_named tree (text_at values 4))
+IsSaid tree notes waiting line verbs.Unplug values read = read ≡ unplug_checked notes line (time_at values 1) (device_named tree (text_at values 3))
+IsSaid tree notes waiting line verbs.Send values read = IsSendSaid tree notes line values read
+IsSaid tree notes waiting line verbs.Hold values read = read ≡ act_read notes line (hold_of (text_at values 4)) (late_time_at values 1) (device_named tree (text_at values 3))
+IsSaid tree notes waiting line verbs.Drop values read = read ≡ act_read notes line (Some Empty) (Some (time_at values 1)) (device_named tree (text_at values 3))
+IsSaid tree notes waiting line verbs.Pulse values read = read ≡ notes_with_pulse notes waiting (pulse_of (time_at values 1) (number_at values 2))
+IsSaid tree notes waiting line verbs.Pull values read = read ≡ notes_with_pull notes waiting (time_at values 1) (number_at values 2)
+IsSaid tree notes waiting line verbs.Pin values read = read ≡ notes_with_level notes waiting (time_at values 1) notes.pin (level_at values 2)
+IsSaid tree notes waiting line verbs.End values read = read ≡ end_checked notes (time_at values 1)
+
+abbrev pub cause_as : LineCause → ScriptCause
+cause_as causes.Word = Word
+cause_as causes.Number = Number
+
+abbrev pub fault_as : AtWord LineCause → AtWord ScriptCause
+fault_as fault = at_word fault.word (cause_as fault.cause)
+
+abbrev pub IsSaidRead : List Node → Notes → ℕ → ℕ → Said ScriptVerb → Result Notes (AtWord ScriptCause) → Type 0
+IsSaidRead tree notes waiting line (Err fault) read = read ≡ Err (fault_as fault)
+IsSaidRead tree notes waiting line (Ok said) read = IsSaid tree notes waiting line said.0 said.1 read
+
+-- what words say by the table of forms
+unfoldable pub line_said : List (List ℕ) → Said ScriptVerb
+line_said words = line_of script_rows words
 
 -- what a line makes of the notes, where so many of their pulses and pulls wait to be taken into a round
 abbrev pub IsLineRead : List Node → Notes → ℕ → ℕ → List ℕ → Result Notes (AtWord ScriptCause) → Type 0
 IsLineRead tree notes waiting line text read =
-    cond {A = Type 0} (is_skipped text) (read ≡ Ok notes) (IsWordsRead tree notes waiting line (words_of text) read)
+    cond {A = Type 0} (is_skipped text) (read ≡ Ok notes) (IsSaidRead tree notes waiting line (line_said (words_of text)) read)
 
 -- after the last line an `end` stands above
 abbrev pub course_at_end : Notes → ℕ → Option ℕ → Result Course (At ScriptCause)

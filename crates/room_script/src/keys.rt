@@ -3,10 +3,10 @@ ghost use Rattle.std.specs.Prelude.{◌≡◌};
 ghost use Rattle.std.specs.List.{list_all};
 ghost use Rattle.std.specs.Char.{is_ascii_lowercase};
 ghost use Rattle.text_forms.specs.Forms.{values_of};
-ghost use Rattle.room_script.specs.Keys.{language_of, destination_of, code_of, control_of, key_or_cause, remote_by};
-ghost use Rattle.room_script.specs.Rows.{key_said, key_time};
+ghost use Rattle.room_script.specs.Keys.{language_of, destination_of, code_of, control_of, key_or_cause, key_said, remote_by};
+ghost use Rattle.room_script.specs.Script.{key_time};
 
-use crate::script::{ScriptCause, time_in};
+use crate::script::ScriptCause;
 use device_features::{Key, KeyWord, VolumeKey};
 use line_frames::Addr;
 use message_table::{Triple, UserControl, WordSet};
@@ -104,7 +104,7 @@ pub(crate) fn key_time(word: KeyWord, line: &FormLine<'_, ScriptVerb>) -> Option
     ensures { result ≡ key_time word (values_of line.now) }
 {
     match word {
-        KeyWord::Watch | KeyWord::Language | KeyWord::Remote => time_in(line.text(1)),
+        KeyWord::Watch | KeyWord::Language | KeyWord::Remote => line.late_time(1),
         KeyWord::Play
         | KeyWord::Stop
         | KeyWord::Eject

@@ -1,14 +1,9 @@
 //! Laws of the texts of scripts.
-ghost use Rattle.std.specs.Prelude.{◌≡◌, ◌↔◌, ℕ, List, ◌∷◌, Result, Ok};
-ghost use Rattle.device_features.specs.KeyWords.{key_text, word_of_key};
-ghost use Rattle.device_features.specs.declared.keys.Key.{Key};
-ghost use Rattle.room_script.specs.Keys.{key_of};
-ghost use Rattle.room_script.specs.Lines.{AnswersAreGiven, LinesAdd, LinesAreOfScripts, LinesEnd, LinesFollow, LinesKeepFew, LinesKeepSound, NoneAreSound, SoundAreTimely};
-ghost use Rattle.room_script.specs.Script.{IsLineRead, Notes, OneScript, ScriptsAreSound};
-ghost use Rattle.room_script.specs.Rows.{IsFormRead};
-ghost use Rattle.room_script.specs.declared.script.ScriptCause.{ScriptCause};
-ghost use Rattle.edid_tree.specs.Node.{Node};
-ghost use Rattle.text_core.specs.declared.at.AtWord.{AtWord};
+ghost use Rattle.std.specs.Prelude.{◌≡◌, true};
+ghost use Rattle.std.specs.List.{list_all};
+ghost use Rattle.room_lines.specs.Script.{script_rows};
+ghost use Rattle.room_script.specs.Lines.{AnswersAreGiven, KeysHaveTheirWords, LinesAdd, LinesAreOfRows, LinesAreOfScripts, LinesBeginSo, LinesEnd, LinesFollow, LinesKeepFew, LinesKeepSound, NoneAreSound, SoundAreTimely, names_key};
+ghost use Rattle.room_script.specs.Script.{OneScript, ScriptsAreSound};
 
 /// Every text of a script gives events in the order of their times, of devices that are there and of frames that are
 /// not empty, and pulses and pulls in order.
@@ -21,9 +16,16 @@ pub fn one_script()
     ensures { OneScript }
 {}
 
-/// The first of the words that say a key is that key's word.
+/// The key that a line says is one of the word that stands in the line's form.
 pub fn keys_begin_with_their_words()
-    ensures { (first : List ℕ) (rest : List (List ℕ)) (key : Key) → key_of (first ∷ rest) ≡ Ok key → first ≡ key_text (word_of_key key) }
+    ensures word { KeysHaveTheirWords }
+    ensures form { list_all names_key script_rows ≡ true }
+{}
+
+/// A line that is read names a row of the table, which all of its words fit. It begins with the row's word, and then with its time.
+pub fn lines_are_of_rows()
+    ensures row { LinesAreOfRows }
+    ensures begin { LinesBeginSo }
 {}
 
 /// What the lines of a script say so far is sound: before the first line it is, each line that is taken keeps it so, and what it
@@ -48,10 +50,4 @@ pub fn lines_are_read_in_order()
     ensures first { LinesFollow }
     ensures last { LinesEnd }
     ensures given { AnswersAreGiven }
-{}
-
-/// A line of a script says by the table of its forms what it says by its words: the same notes, or the same cause at the same word.
-pub fn lines_are_read_by_forms()
-    ensures { (tree : List Node) (notes : Notes) (waiting line : ℕ) (text : List ℕ) (read : Result Notes (AtWord ScriptCause))
-        → IsFormRead tree notes waiting line text read ↔ IsLineRead tree notes waiting line text read }
 {}

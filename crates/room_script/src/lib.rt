@@ -13,8 +13,8 @@ mod topology;
 
 pub use course::Script;
 pub use laws::{
-    keys_begin_with_their_words, lines_add_little, lines_are_read_by_forms,
-    lines_are_read_in_order, lines_keep_scripts_sound, one_script, scripts_are_sound,
+    keys_begin_with_their_words, lines_add_little, lines_are_of_rows, lines_are_read_in_order,
+    lines_keep_scripts_sound, one_script, scripts_are_sound,
 };
 pub use message_table::WordSet;
 pub use message_text::{AssembleError, assemble, frame_text, write_frame};

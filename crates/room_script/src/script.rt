@@ -3,12 +3,12 @@ ghost use Rattle.std.specs.Prelude.{◌≡◌, ◌+◌, ◌<◌, ◌≤◌, true
 ghost use Rattle.line_wave.specs.Bounds.{latest_event};
 ghost use Rattle.line_wave.specs.Pulls.{are_timely};
 ghost use Rattle.text_core.specs.Words.{words_of};
-ghost use Rattle.text_forms.specs.Forms.{port_at, said, text_at, time_at, values_of};
+ghost use Rattle.text_forms.specs.Forms.{late_time_at, port_at, said, text_at, time_at, values_of};
 ghost use Rattle.edid_tree.specs.Tree.{device_named};
 ghost use Rattle.device_core.specs.declared.outside.Act.TheVariants.{Empty};
 ghost use Rattle.room_script.specs.Holding.{hold_of};
-ghost use Rattle.room_script.specs.Rows.{fault_as, key_said, key_time, line_said, plug_checked, IsSaid, IsSaidRead};
-ghost use Rattle.room_script.specs.Script.{no_notes, notes_of, course_of, time_of, last_time, last_end, notes_with_event, unplug_read, key_read, act_read, pulse_fault, pulse_refusal, notes_with_pulse, pulse_read, touches, pull_read, end_read, course_at_end, error_at, IsLineRead, IsWordsRead, GivesNotes, Gives, GivesCourse, GivesScript, IsScript};
+ghost use Rattle.room_script.specs.Keys.{key_said};
+ghost use Rattle.room_script.specs.Script.{no_notes, notes_of, course_of, time_of, last_time, last_end, notes_with_event, plug_checked, unplug_checked, key_read, key_time, act_read, pulse_fault, pulse_refusal, notes_with_pulse, pulse_of, touches, notes_with_pull, end_checked, fault_as, line_said, course_at_end, error_at, IsSaid, IsSaidRead, IsLineRead, GivesNotes, Gives, GivesCourse, GivesScript, IsScript};
 
 use crate::course::Script;
 use crate::holding::hold_in;
@@ -269,7 +269,7 @@ fn take_unplug(
     number: u64,
     line: &FormLine<'_, ScriptVerb>,
 ) -> Result<(), ScriptLineError>
-    ensures gives { GivesNotes (notes_of draft.new) result (unplug_read (notes_of draft.old) number (Some (time_at (values_of line.now) 1)) (device_named tree.now (text_at (values_of line.now) 3))) }
+    ensures gives { GivesNotes (notes_of draft.new) result (unplug_checked (notes_of draft.old) number (time_at (values_of line.now) 1) (device_named tree.now (text_at (values_of line.now) 3))) }
     ensures kept { OnErr result (notes_of draft.new ≡ notes_of draft.old) }
 {
     let Some(child) = tree.device_named(line.text(3)) else {
@@ -333,12 +333,12 @@ fn take_hold(
     number: u64,
     line: &FormLine<'_, ScriptVerb>,
 ) -> Result<(), ScriptLineError>
-    ensures gives { GivesNotes (notes_of draft.new) result (act_read (notes_of draft.old) number (hold_of (text_at (values_of line.now) 4)) (time_of (text_at (values_of line.now) 1))
+    ensures gives { GivesNotes (notes_of draft.new) result (act_read (notes_of draft.old) number (hold_of (text_at (values_of line.now) 4)) (late_time_at (values_of line.now) 1)
         (device_named tree.now (text_at (values_of line.now) 3))) }
     ensures kept { OnErr result (notes_of draft.new ≡ notes_of draft.old) }
 {
     let act = hold_in(line.text(4));
-    let time = time_in(line.text(1));
+    let time = line.late_time(1);
     schedule_act(draft, number, act, time, tree.device_named(line.text(3)))
 }
 
@@ -406,7 +406,7 @@ fn take_pulse(
     width: u64,
 ) -> Result<(), ScriptLineError>
     requires early { from ≤ latest_event }
-    ensures gives { GivesNotes (notes_of draft.new) result (pulse_read (notes_of draft.old) waiting (Ok (from, width))) }
+    ensures gives { GivesNotes (notes_of draft.new) result (notes_with_pulse (notes_of draft.old) waiting (pulse_of from width)) }
     ensures kept { OnErr result (notes_of draft.new ≡ notes_of draft.old) }
 {
     let to = from + width.min(WIDEST_COUNTED);
@@ -431,7 +431,7 @@ fn take_pull(
     width: u64,
 ) -> Result<(), ScriptLineError>
     requires early { from ≤ latest_event }
-    ensures gives { GivesNotes (notes_of draft.new) result (pull_read (notes_of draft.old) waiting (Ok (from, width))) }
+    ensures gives { GivesNotes (notes_of draft.new) result (notes_with_pull (notes_of draft.old) waiting from width) }
     ensures kept { OnErr result (notes_of draft.new ≡ notes_of draft.old) }
 {
     if width == 0 || width > WIDEST_PULL {
@@ -453,7 +453,7 @@ fn take_pull(
 
 /// Takes the end.
 fn take_end(draft: &mut ScriptDraft, time: u64) -> Result<(), ScriptLineError>
-    ensures gives { GivesNotes (notes_of draft.new) result (end_read (notes_of draft.old) (Some time)) }
+    ensures gives { GivesNotes (notes_of draft.new) result (end_checked (notes_of draft.old) time) }
     ensures kept { OnErr result (notes_of draft.new ≡ notes_of draft.old) }
 {
     if draft.end.is_some() {
@@ -497,7 +497,7 @@ fn take_form(
 }
 
 /// The form of a line, and its values.
-#[tactic(auto, unfolding(crate::specs::Rows::line_said))]
+#[tactic(auto, unfolding(crate::specs::Script::line_said))]
 fn line_said(line: &[u8]) -> Result<FormLine<'_, ScriptVerb>, AtWord<LineCause>>
     ensures { said result ≡ line_said (words_of line.now) }
 {
@@ -530,20 +530,6 @@ fn take_said(
     }
 }
 
-/// Takes the words of a line.
-fn take_words(
-    tree: &Tree<15>,
-    draft: &mut ScriptDraft,
-    waiting: usize,
-    number: u64,
-    line: &[u8],
-) -> Result<(), ScriptLineError>
-    ensures gives { Gives (notes_of draft.new) result (IsWordsRead tree.now (notes_of draft.old) waiting number (words_of line.now)) }
-    ensures kept { OnErr result (notes_of draft.new ≡ notes_of draft.old) }
-{
-    take_said(tree, draft, waiting, number, line)
-}
-
 /// Takes a line, the one of this number. So many pulses and pulls of the lines before it wait to be taken into a round: all
 /// of them, where the run has not begun.
 pub fn take_line(
@@ -559,7 +545,7 @@ pub fn take_line(
     if is_skipped(line) {
         return Ok(());
     }
-    take_words(tree, draft, waiting, number, line)
+    take_said(tree, draft, waiting, number, line)
 }
 
 /// The error of a line that is not taken.

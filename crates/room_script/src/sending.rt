@@ -5,12 +5,11 @@ ghost use Rattle.text_core.specs.Words.{text_of, words_of, words_after};
 ghost use Rattle.message_hex.specs.Bytes.{frame_in};
 ghost use Rattle.text_forms.specs.Forms.{values_of};
 ghost use Rattle.room_script.specs.Header.{digits_text, header_names};
-ghost use Rattle.room_script.specs.Rows.{IsSendSaid};
-ghost use Rattle.room_script.specs.Script.{notes_of, send_read, frame_event, GivesNotes, Gives};
+ghost use Rattle.room_script.specs.Script.{notes_of, send_read, frame_event, GivesNotes, Gives, IsSendSaid};
 ghost use Rattle.room_script.specs.Sending.{attempts_of, frame_read, handed_as, handed_in, hex_read, with_attempts, IsFrameOf, IsFrameRead};
 
 use crate::header::{has_names, header_names, text_with_digits};
-use crate::script::{ScriptCause, ScriptDraft, ScriptLineError, schedule, time_in};
+use crate::script::{ScriptCause, ScriptDraft, ScriptLineError, schedule};
 use device_core::Ticket;
 use edid_tree::Tree;
 use line_frames::Frame;
@@ -239,7 +238,7 @@ pub(crate) fn take_send(
     let read = frame_said(draft.alloc, handed.at, frame)?;
     let said = Said {
         at: handed.at,
-        time: time_in(line.text(1)),
+        time: line.late_time(1),
         attempts: handed.attempts,
         device: tree.device_named(line.text(3)),
         names: header_names(tree, header),

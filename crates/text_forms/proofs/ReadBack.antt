@@ -1,13 +1,12 @@
 -- The words of a row's values are read as that row with those values.
-use Rattle.std.proofs.Common.{◌≡◌, ℕ, suc, ◌+◌, ◌^◌, ◌<◌, ◌≤◌, ◌==◌, ◌&&◌, ◌||◌, ◌⊎◌, inl, inr, not, Bool, true, false, if◌then◌else◌, List, [], ◌∷◌, ◌++◌, nat_lt, nat_le, min, Option, Some, None, option_map, is_none, Ok, refl, sym, ap, ◌∙◌, subst, arith, rules, true≢false}
+use Rattle.std.proofs.Common.{◌≡◌, ℕ, ◌+◌, ◌^◌, ◌<◌, ◌==◌, ◌&&◌, ◌||◌, ◌⊎◌, inl, inr, not, Bool, true, false, if◌then◌else◌, List, [], ◌∷◌, ◌++◌, nat_lt, nat_le, min, Some, None, option_map, refl, sym, ap, ◌∙◌, arith, true≢false}
 use Rattle.std.specs.List.{list_all}
 use Rattle.std.specs.Str.{bytes_eq}
 use Rattle.std.proofs.lemmas.Slice.Eq.{bytes_eq-Decides}
 use Rattle.std.proofs.lemmas.Bool.Decides.{nat_tests}
 use Rattle.text_core.proofs.KindWords.{kind_read_again}
-use Rattle.text_forms.specs.Forms.{Meaning, Place, fault_in, fits, is_itself, is_rest, is_whole, line_of, meaning_of, meanings_of, most_fitting, read_of, row_of, turn_of}
+use Rattle.text_forms.specs.Forms.{Meaning, Place, fault_in, fits, is_itself, is_rest, is_whole, meaning_of, meanings_of, most_fitting, read_of, row_of, turn_of}
 use Rattle.text_forms.specs.Forms.Meaning.{Itself, Number, PortOf, PortsOf, Level, KindOf, Text, Words}
-use Rattle.text_forms.specs.Limits.{at_most}
 use Rattle.text_forms.specs.Laws.{ReadsBack, all_apart, are_apart, are_values_of, differ, is_value_of, word_for, words_for}
 use Rattle.text_forms.specs.declared.form.Slot.{Slot}
 use Rattle.text_forms.specs.declared.form.Slot.TheVariants as slots
@@ -81,6 +80,14 @@ again t slots.Time (Level l) h = absurd (true≢false (sym h))
 again t slots.Time (KindOf k) h = absurd (true≢false (sym h))
 again t slots.Time (Text w) h = absurd (true≢false (sym h))
 again t slots.Time (Words ws) h = absurd (true≢false (sym h))
+again t slots.LateTime Itself h = absurd (true≢false (sym h))
+again t slots.LateTime (Number n) h = rw (number_again n (small n 1000000000000 h (omega arith)), under n 1000000000000 h) refl
+again t slots.LateTime (PortOf n) h = absurd (true≢false (sym h))
+again t slots.LateTime (PortsOf n) h = absurd (true≢false (sym h))
+again t slots.LateTime (Level l) h = absurd (true≢false (sym h))
+again t slots.LateTime (KindOf k) h = absurd (true≢false (sym h))
+again t slots.LateTime (Text w) h = absurd (true≢false (sym h))
+again t slots.LateTime (Words ws) h = absurd (true≢false (sym h))
 again t slots.Number Itself h = absurd (true≢false (sym h))
 again t slots.Number (Number n) h = rw (number_again n (below n (2 ^ 64) h)) refl
 again t slots.Number (PortOf n) h = absurd (true≢false (sym h))
@@ -153,6 +160,7 @@ no_rest : (slot : Slot) (m : Meaning) → is_value_of slot m ≡ true → is_res
 no_rest slots.Word m h = refl
 no_rest slots.Key m h = refl
 no_rest slots.Time m h = refl
+no_rest slots.LateTime m h = refl
 no_rest slots.Number m h = refl
 no_rest slots.Port m h = refl
 no_rest slots.KeyPort m h = refl
@@ -181,6 +189,7 @@ fits_own t slots.Key (KindOf k) h = absurd (true≢false (sym h))
 fits_own t slots.Key (Text w) h = absurd (true≢false (sym h))
 fits_own t slots.Key (Words ws) h = absurd (true≢false (sym h))
 fits_own t slots.Time m h = refl
+fits_own t slots.LateTime m h = refl
 fits_own t slots.Number m h = refl
 fits_own t slots.Port m h = refl
 fits_own t slots.KeyPort m h = refl

@@ -1,5 +1,5 @@
 -- Forms of lines (own). A form is a row of places. The table of the forms is the code's.
-use Rattle.std.specs.Prelude.{◌≡◌, ℕ, ◌+◌, ◌==◌, ◌&&◌, ◌||◌, Bool, true, false, if◌then◌else◌, codes, List, [], ◌∷◌, get_or, map, max, min, nat_lt, Option, Some, None, option_map, is_none, Result, Ok, Err}
+use Rattle.std.specs.Prelude.{ℕ, ◌+◌, ◌==◌, ◌&&◌, ◌||◌, Bool, true, false, if◌then◌else◌, codes, List, [], ◌∷◌, get_or, map, max, min, Option, Some, None, option_map, is_none, Result, Ok, Err}
 use Rattle.std.specs.Str.{bytes_eq}
 use Rattle.text_core.specs.At.{at_word}
 use Rattle.text_core.specs.declared.at.AtWord.{AtWord}
@@ -82,6 +82,7 @@ meaning_of slots.Word word = Some Itself
 meaning_of slots.Key word = Some Itself
 meaning_of slots.Switch word = option_map Level (switch_of word)
 meaning_of slots.Time word = option_map Number (at_most latest (number_of word))
+meaning_of slots.LateTime word = option_map Number (at_most latest (number_of word))
 meaning_of slots.Number word = option_map Number (number_of word)
 meaning_of slots.Port word = option_map PortOf (option_map (λ n. min n last_port) (number_of word))
 meaning_of slots.KeyPort word = option_map PortOf (option_map (λ n. min n last_port) (number_of word))
@@ -95,6 +96,7 @@ meaning_of slots.Rest word = Some (Text word)
 
 abbrev pub cause_of : Slot → LineCause
 cause_of slots.Time = causes.Number
+cause_of slots.LateTime = causes.Number
 cause_of slots.Number = causes.Number
 cause_of slots.Port = causes.Number
 cause_of slots.KeyPort = causes.Number
@@ -102,7 +104,7 @@ cause_of slots.Ports = causes.Number
 cause_of slots.Level = causes.Number
 cause_of _ = causes.Word
 
--- whose fault is told first: words, the port of a key, other numbers
+-- whose fault is told first: words, the port of a key, other numbers; that of a late time is left to the caller
 abbrev pub turn_of : Slot → ℕ
 turn_of slots.KeyPort = 1
 turn_of slots.Time = 2
@@ -110,6 +112,7 @@ turn_of slots.Number = 2
 turn_of slots.Port = 2
 turn_of slots.Ports = 2
 turn_of slots.Level = 2
+turn_of slots.LateTime = 3
 turn_of _ = 0
 
 -- the first place of a turn whose word has no value
@@ -120,7 +123,13 @@ fault_in turn before (place ∷ others) (word ∷ words) =
     if (turn_of place.0 == turn) && is_none (meaning_of place.0 word) then Some (at_word before (cause_of place.0))
     else fault_in turn (before + 1) others words
 
--- a line that is read has a value at each place
+-- whether a word at some place has no value
+unfoldable pub lacks_value : List Place → List (List ℕ) → Bool
+lacks_value [] words = false
+lacks_value (place ∷ others) [] = false
+lacks_value (place ∷ others) (word ∷ words) = is_none (meaning_of place.0 word) || lacks_value others words
+
+-- a line that is read has a value at each place, but for a late time that is none
 abbrev pub value_or : Option Meaning → Meaning
 value_or None = Itself
 value_or (Some value) = value
@@ -183,6 +192,10 @@ abbrev pub time_of_meaning : Meaning → ℕ
 time_of_meaning (Number n) = min n latest
 time_of_meaning _ = 0
 
+abbrev pub late_time_of_meaning : Meaning → Option ℕ
+late_time_of_meaning (Number n) = Some (min n latest)
+late_time_of_meaning _ = None
+
 abbrev pub port_of_meaning : Meaning → ℕ
 port_of_meaning (PortOf n) = n
 port_of_meaning _ = 0
@@ -227,6 +240,9 @@ number_at values place = number_of_meaning (get_or values place Itself)
 
 abbrev pub time_at : List Meaning → ℕ → ℕ
 time_at values place = time_of_meaning (get_or values place Itself)
+
+abbrev pub late_time_at : List Meaning → ℕ → Option ℕ
+late_time_at values place = late_time_of_meaning (get_or values place Itself)
 
 abbrev pub level_at : List Meaning → ℕ → Bool
 level_at values place = level_of_meaning (get_or values place Itself)

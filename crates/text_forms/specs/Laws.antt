@@ -18,6 +18,7 @@ is_value_of slots.Rest _ = false
 is_value_of slots.Word Itself = true
 is_value_of slots.Key Itself = true
 is_value_of slots.Time (Number n) = nat_le n latest
+is_value_of slots.LateTime (Number n) = nat_le n latest
 is_value_of slots.Number (Number n) = nat_lt n (2 ^ 64)
 is_value_of slots.Port (PortOf n) = nat_le n last_port
 is_value_of slots.KeyPort (PortOf n) = nat_le n last_port

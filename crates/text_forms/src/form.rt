@@ -16,6 +16,8 @@ pub enum Slot {
     Key,
     /// A time in microseconds, at most 1,000,000,000,000.
     Time,
+    /// Such a time, of which the caller tells the fault: causes of its own come before it.
+    LateTime,
     /// A number.
     Number,
     /// A port: a number that counts as 255 above it.
@@ -53,12 +55,17 @@ impl Slot {
         match self {
             Slot::Word | Slot::Key | Slot::Switch | Slot::Kind | Slot::Text | Slot::Rest =>
                 LineCause::Word,
-            Slot::Time | Slot::Number | Slot::Port | Slot::KeyPort | Slot::Ports | Slot::Level =>
-                LineCause::Number,
+            Slot::Time
+            | Slot::LateTime
+            | Slot::Number
+            | Slot::Port
+            | Slot::KeyPort
+            | Slot::Ports
+            | Slot::Level => LineCause::Number,
         }
     }
 
-    // Whose fault is told first: 0, then 1, then 2.
+    // Whose fault is told first: 0, then 1, then 2. A fault of turn 3 is left to the caller.
     pub(crate) fn turn(self) -> u8
         ensures { result ≡ turn_of self }
     {
@@ -66,6 +73,7 @@ impl Slot {
             Slot::Word | Slot::Key | Slot::Switch | Slot::Kind | Slot::Text | Slot::Rest => 0,
             Slot::KeyPort => 1,
             Slot::Time | Slot::Number | Slot::Port | Slot::Ports | Slot::Level => 2,
+            Slot::LateTime => 3,
         }
     }
 }
@@ -115,6 +123,23 @@ pub(crate) fn is_whole(form: &[(Slot, &str)], line: Option<&[u8]>) -> bool
         return false;
     };
     fits(*place, word) && (place.0 == Slot::Rest || is_whole(others, after))
+}
+
+/// Whether these words are those of a form.
+#[tactic(auto, unfolding(crate::specs::Forms::is_whole))]
+pub(crate) fn are_whole(form: &[(Slot, &str)], words: &[&[u8]]) -> bool
+    ensures { result ≡ is_whole (map (λ p. (p.0, p.1.now)) form.now) (map (λ w. w.now) words.now) }
+{
+    let [word, others @ ..] = words else {
+        return match form {
+            [_first, _others @ ..] => false,
+            _ => true,
+        };
+    };
+    let [place, places @ ..] = form else {
+        return false;
+    };
+    fits(*place, word) && (place.0 == Slot::Rest || are_whole(places, others))
 }
 
 /// The most words of a line that fit one of some forms. The word after them is the first that fits none.

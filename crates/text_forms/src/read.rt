@@ -1,13 +1,14 @@
 //! Lines that are read by a table of forms.
 ghost use Rattle.std.specs.Prelude.{◌≡◌, ◌+◌, ◌≤◌, get_or, map, length};
-ghost use Rattle.std.specs.Option.{option_copied, option_map};
+ghost use Rattle.std.specs.Option.{IfSome, option_copied, option_map};
 ghost use Rattle.text_core.specs.Words.{words_of, words_after};
 ghost use Rattle.text_forms.specs.Limits.{latest, most_ports};
-ghost use Rattle.text_forms.specs.Forms.{Itself, fault_in, line_of, meanings_of, meant, kind_at, level_at, number_at, port_at, ports_at, read_by, read_of, row_of, said, text_at, time_at, value_or, values_of, words_at};
+ghost use Rattle.text_forms.specs.Forms.{Itself, fault_in, lacks_value, line_of, meanings_of, meant, kind_at, level_at, late_time_at, number_at, port_at, ports_at, read_by, read_of, row_of, said, text_at, time_at, value_or, values_of, words_at};
 
-use crate::form::{LineCause, Slot, is_whole, most_fitting};
+use crate::form::{LineCause, Slot, are_whole, is_whole, most_fitting};
 use crate::limits::{LATEST, MOST_PORTS};
 use crate::value::{Value, value_in};
+use arrayvec::ArrayVec;
 use text_core::{AtWord, Kind, at_word, first_word};
 
 /// A line, the form that it has, and what the form stands for. Each place has its value.
@@ -40,6 +41,21 @@ fn fault_in(
         return Some(at_word(before, place.0.cause()));
     }
     fault_in(turn, before + 1, others, after)
+}
+
+// Whether the word at some place has no value.
+#[tactic(auto, unfolding(crate::specs::Forms::lacks_value))]
+fn lacks_value(form: &[(Slot, &str)], line: Option<&[u8]>) -> bool
+    ensures { result ≡ lacks_value (map (λ p. (p.0, p.1.now)) form.now) (words_after (option_copied line.entry)) }
+{
+    let [place, others @ ..] = form else {
+        return false;
+    };
+    let Some(text) = line else {
+        return false;
+    };
+    let (word, after) = first_word(text);
+    value_in(place.0, word).is_none() || lacks_value(others, after)
 }
 
 fn value_or_itself<'t>(value: Option<Value<'t>>) -> Value<'t>
@@ -75,8 +91,8 @@ fn value_at<'t>(form: &[(Slot, &str)], line: Option<&'t [u8]>, place: usize) -> 
     value_at(others, after, place - 1)
 }
 
-// Reads a line that has the words of a form.
-fn read_by<'t, V: Copy>(
+// Reads a line that has the words of a form, turn by turn.
+fn read_in_turns<'t, V: Copy>(
     verb: V,
     form: &'t [(Slot, &'t str)],
     line: &'t [u8],
@@ -99,22 +115,87 @@ fn read_by<'t, V: Copy>(
     })
 }
 
-// Reads a line by the first of some forms that it has. So many of its words fit one of all.
-#[tactic(auto, unfolding(crate::specs::Forms::row_of))]
-fn read_first<'t, V: Copy>(
-    most: usize,
-    forms: &'t [(V, &'t [(Slot, &'t str)])],
+// Reads a line that has the words of a form. Where each place has a value there is no fault of any turn.
+fn read_by<'t, V: Copy>(
+    verb: V,
+    form: &'t [(Slot, &'t str)],
     line: &'t [u8],
 ) -> Result<FormLine<'t, V>, AtWord<LineCause>>
-    ensures { said result ≡ read_of most (row_of (map (λ r. (r.0, map (λ p. (p.0, p.1.now)) r.1.now)) forms.now) (words_of line.now)) (words_of line.now) }
+    ensures { said result ≡ read_by verb (map (λ p. (p.0, p.1.now)) form.now) (words_of line.now) }
+{
+    if lacks_value(form, Some(line)) {
+        return read_in_turns(verb, form, line);
+    }
+    Ok(FormLine {
+        verb,
+        form,
+        text: line,
+    })
+}
+
+// The first form that a line has, word by word.
+#[tactic(auto, unfolding(crate::specs::Forms::row_of))]
+fn form_of<'t, V: Copy>(
+    forms: &'t [(V, &'t [(Slot, &'t str)])],
+    line: &[u8],
+) -> Option<(V, &'t [(Slot, &'t str)])>
+    ensures { option_map (λ r. (r.0, map (λ p. (p.0, p.1.now)) r.1.now)) result ≡ row_of (map (λ r. (r.0, map (λ p. (p.0, p.1.now)) r.1.now)) forms.now) (words_of line.now) }
 {
     let [form, others @ ..] = forms else {
-        return Err(at_word(most, LineCause::Word));
+        return None;
     };
     if is_whole(form.1, Some(line)) {
-        read_by(form.0, form.1, line)
+        Some((form.0, form.1))
     } else {
-        read_first(most, others, line)
+        form_of(others, line)
+    }
+}
+
+// The first form that a line with these words has.
+#[tactic(auto, unfolding(crate::specs::Forms::row_of))]
+fn form_of_words<'t, V: Copy>(
+    forms: &'t [(V, &'t [(Slot, &'t str)])],
+    words: &[&[u8]],
+) -> Option<(V, &'t [(Slot, &'t str)])>
+    ensures { option_map (λ r. (r.0, map (λ p. (p.0, p.1.now)) r.1.now)) result ≡ row_of (map (λ r. (r.0, map (λ p. (p.0, p.1.now)) r.1.now)) forms.now) (map (λ w. w.now) words.now) }
+{
+    let [form, others @ ..] = forms else {
+        return None;
+    };
+    if are_whole(form.1, words) {
+        Some((form.0, form.1))
+    } else {
+        form_of_words(others, words)
+    }
+}
+
+// The words of a line; None where they are more than are kept apart.
+fn split_words(line: &[u8]) -> Option<ArrayVec<&[u8], 24>>
+    ensures { IfSome result (λ w. map (λ word. word.now) w.items ≡ words_of line.now) }
+{
+    let mut words = ArrayVec::new();
+    let mut rest = Some(line);
+    'words: while let Some(text) = rest {
+        if words.is_full() {
+            return None;
+        }
+        let (word, after) = first_word(text);
+        words.push(word);
+        rest = after;
+    }
+    Some(words)
+}
+
+// The first form that a line has. A line is cut into words once, unless it has too many.
+fn first_form<'t, V: Copy>(
+    forms: &'t [(V, &'t [(Slot, &'t str)])],
+    line: &[u8],
+) -> Option<(V, &'t [(Slot, &'t str)])>
+    ensures { option_map (λ r. (r.0, map (λ p. (p.0, p.1.now)) r.1.now)) result ≡ row_of (map (λ r. (r.0, map (λ p. (p.0, p.1.now)) r.1.now)) forms.now) (words_of line.now) }
+{
+    match split_words(line) {
+        Some(words) => form_of_words(forms, words.as_slice()),
+        None => form_of(forms, line),
     }
 }
 
@@ -130,7 +211,10 @@ pub fn read_line<'t, V: Copy>(
 ) -> Result<FormLine<'t, V>, AtWord<LineCause>>
     ensures { said result ≡ line_of (map (λ r. (r.0, map (λ p. (p.0, p.1.now)) r.1.now)) forms.now) (words_of line.now) }
 {
-    read_first(most_fitting(forms, line), forms, line)
+    match first_form(forms, line) {
+        Some(form) => read_by(form.0, form.1, line),
+        None => Err(at_word(most_fitting(forms, line), LineCause::Word)),
+    }
 }
 
 impl<'t, V> FormLine<'t, V> {
@@ -159,6 +243,16 @@ impl<'t, V> FormLine<'t, V> {
         match value_at(self.form, Some(self.text), place) {
             Value::Number(time) => time.min(LATEST),
             _ => 0,
+        }
+    }
+
+    /// The time at a place; None where none is.
+    pub fn late_time(&self, place: usize) -> Option<u64>
+        ensures { result ≡ late_time_at (values_of self.now) place }
+    {
+        match value_at(self.form, Some(self.text), place) {
+            Value::Number(time) => Some(time.min(LATEST)),
+            _ => None,
         }
     }
 

@@ -128,7 +128,7 @@ pub(crate) fn value_in(slot: Slot, word: &[u8]) -> Option<Value<'_>>
 {
     match slot {
         Slot::Word | Slot::Key => Some(Value::Itself),
-        Slot::Time => of_number(at_most(LATEST, number_in(word))),
+        Slot::Time | Slot::LateTime => of_number(at_most(LATEST, number_in(word))),
         Slot::Number => of_number(number_in(word)),
         Slot::Port | Slot::KeyPort => of_port(port_in(word)),
         Slot::Ports => of_ports(ports_in(word)),
