@@ -160,27 +160,27 @@ verdicts_of script told states = lines_judged script told (λ line. None) 1 (lin
 
 -- ---- expectations alone
 
--- what is found of a line that expects something: its number, and the state line that it speaks of
+-- what is found of a line that expects something: its number, and what stands below its test of a state or of the audit
 pub record JudgedLine : Type 0 where
   pub line : ℕ
   pub judged : Judged
-  pub state : List ℕ
+  pub below : List ℕ
 
 abbrev pub finding_as : FindingRead → JudgedLine
-finding_as f = record { line = f.line; judged = f.judged; state = f.state.now }
+finding_as f = record { line = f.line; judged = f.judged; below = f.below.now }
 
 abbrev pub or_more : ℕ → List ℕ → Judged → Option Bool → List JudgedLine → List JudgedLine
-or_more number state j None more = more
-or_more number state j (Some holds) more = record { line = number; judged = j; state = state } ∷ more
+or_more number text j None more = more
+or_more number text j (Some holds) more = record { line = number; judged = j; below = text } ∷ more
 
--- those of lines that expect something, of lines with these state lines, of which the first has this number
+-- those of lines that expect something, of lines below whose tests these texts stand, of which the first has this number
 abbrev pub findings_from : ℕ → List (List ℕ) → List Judged → List JudgedLine
 findings_from number [] js = []
-findings_from number (state ∷ states) [] = []
-findings_from number (state ∷ states) (j ∷ js) = or_more number state j j.holds (findings_from (number + 1) states js)
+findings_from number (text ∷ texts) [] = []
+findings_from number (text ∷ texts) (j ∷ js) = or_more number text j j.holds (findings_from (number + 1) texts js)
 
-abbrev pub findings_of : List ℕ → Told → List (List ℕ) → List JudgedLine
-findings_of script told states = findings_from 1 states (verdicts_of script told states)
+abbrev pub findings_of : List ℕ → Told → List (List ℕ) → List (List ℕ) → List JudgedLine
+findings_of script told states texts = findings_from 1 texts (verdicts_of script told states)
 
 -- ---- state lines
 
@@ -206,7 +206,7 @@ later_states false states = states
 later_states true [] = []
 later_states true (state ∷ states) = states
 
--- the state line of each of these lines, by those of the lines that speak of a state, in order; of another line none
+-- of each of these lines its text, by those of the lines that speak of a state, in order; of another line none
 abbrev pub states_for : List (List ℕ) → List (List ℕ) → List (List ℕ)
 states_for [] states = []
 states_for (line ∷ lines) states = first_state (is_of_state line) states ∷ states_for lines (later_states (is_of_state line) states)

@@ -36,8 +36,8 @@ pub struct Judged {
 pub struct JudgedLine<'a> {
     pub line: u64,
     pub judged: Judged,
-    /// The state line that it speaks of, or the remarks that are told of the audit; empty where it speaks of none.
-    pub state: &'a [u8],
+    /// What stands below its test of a state or of the audit, where that failed; empty where it is of neither.
+    pub below: &'a [u8],
 }
 
 // What fails.
@@ -368,9 +368,9 @@ fn add_finding<'a>(
     found: &mut Vec<JudgedLine<'a>>,
     line: u64,
     judged: Judged,
-    state: &'a [u8],
+    below: &'a [u8],
 ) -> Result<(), AllocError>
-    ensures { OnOk result (map finding_as found.new.items ≡ map finding_as found.old.items ++ or_more line state.now judged judged.holds []) }
+    ensures { OnOk result (map finding_as found.new.items ≡ map finding_as found.old.items ++ or_more line below.now judged judged.holds []) }
 {
     let Some(_) = judged.holds else {
         return Ok(());
@@ -378,7 +378,7 @@ fn add_finding<'a>(
     found.push(JudgedLine {
         line,
         judged,
-        state,
+        below,
     })?;
     Ok(())
 }
@@ -389,30 +389,34 @@ fn judged_by<'a>(
     alloc: Global,
     labels: &Labels<'_>,
     index: &Index<'_>,
-    states: &'a [Vec<u8>],
+    states: &[Vec<u8>],
+    texts: &'a [Vec<u8>],
 ) -> Result<Vec<JudgedLine<'a>>, AllocError>
-    ensures { IfOk result (λ found. map finding_as found.items ≡ findings_of labels.now.script.now (told_as index.now.told) (states_for (lines_of labels.now.script.now) (map (λ state. state.items) states.now))) }
+    ensures { IfOk result (λ found. map finding_as found.items ≡ findings_of labels.now.script.now (told_as index.now.told) (states_for (lines_of labels.now.script.now) (map (λ state. state.items) states.now)) (states_for (lines_of labels.now.script.now) (map (λ text. text.items) texts.now))) }
 {
     let mut instants = HashMap::new(alloc);
     let mut found = Vec::new(alloc);
     let mut rest = labels.script;
     let mut left = states;
+    let mut texts_left = texts;
     let mut number = 1u64;
     'lines: while let Some((line, after)) = first_line(rest) {
         let of_state = is_of_state(line);
         let state = first_state(of_state, left);
         let judged = line_judged(labels, index, state, &instants, number, line);
         note_instant(&mut instants, number, judged.at)?;
-        add_finding(&mut found, number, judged, state)?;
+        let below = first_state(of_state, texts_left);
+        add_finding(&mut found, number, judged, below)?;
         rest = after;
         left = later_states(of_state, left);
+        texts_left = later_states(of_state, texts_left);
         number += 1;
     }
     Ok(found)
 }
 
 /// What is found of each line of a script that expects something, in order, by what is told of its run and the state lines of the
-/// lines that speak of one.
+/// lines that speak of one. `texts` are what stands below the tests of these lines, where they fail.
 ///
 /// # Errors
 ///
@@ -421,10 +425,11 @@ pub fn all_judged<'a>(
     alloc: Global,
     labels: &Labels<'_>,
     told: &Told<'_>,
-    states: &'a [Vec<u8>],
+    states: &[Vec<u8>],
+    texts: &'a [Vec<u8>],
 ) -> Result<Vec<JudgedLine<'a>>, AllocError>
-    ensures { IfOk result (λ found. map finding_as found.items ≡ findings_of labels.now.script.now (told_as told.now) (states_for (lines_of labels.now.script.now) (map (λ state. state.items) states.now))) }
+    ensures { IfOk result (λ found. map finding_as found.items ≡ findings_of labels.now.script.now (told_as told.now) (states_for (lines_of labels.now.script.now) (map (λ state. state.items) states.now)) (states_for (lines_of labels.now.script.now) (map (λ text. text.items) texts.now))) }
 {
     let index = Index::new(alloc, labels.script, told)?;
-    judged_by(alloc, labels, &index, states)
+    judged_by(alloc, labels, &index, states, texts)
 }

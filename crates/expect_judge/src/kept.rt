@@ -5,13 +5,14 @@ ghost use Rattle.expect_judge.specs.Told.{kept_as, round_as};
 use crate::lines::RoundLine;
 use std::alloc::{AllocError, Global};
 
-/// A round that is kept, with what it says.
+/// A round that is kept, with what it says, and what stands of it below a test that failed.
 #[derive(Drop)]
 pub struct KeptRound {
     pub begin: u64,
     pub at: u64,
     pub is_complete: bool,
     pub reported: Vec<u8>,
+    pub shown: Vec<u8>,
 }
 
 /// These rounds, as they are judged.
@@ -33,6 +34,7 @@ pub fn rounds_kept<'a>(
             at: round.at,
             is_complete: round.is_complete,
             reported: &round.reported,
+            shown: &round.shown,
         })?;
         rest = others;
     }

@@ -11,6 +11,8 @@ pub struct RoundLine<'a> {
     pub is_complete: bool,
     /// What stands after these, which patterns are met by.
     pub reported: &'a [u8],
+    /// What stands of it below a test that failed.
+    pub shown: &'a [u8],
 }
 
 /// What the line of an event says.

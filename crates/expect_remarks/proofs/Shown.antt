@@ -1,32 +1,25 @@
 -- Lines of remarks.
-use Rattle.std.proofs.Common.{◌≡◌, ℕ, suc, ◌-◌, ◌≤◌, ◌==◌, Bool, true, false, if◌then◌else◌, drop, filter, get_or, length, take, List, [], ◌∷◌, ◌++◌, refl, sym, ap, subst, ◌∙◌, append-nil, append_assoc, arith}
+use Rattle.std.proofs.Common.{◌≡◌, ℕ, suc, ◌-◌, ◌==◌, Bool, true, false, if◌then◌else◌, codes, drop, filter, length, take, List, [], ◌∷◌, ◌++◌, refl, sym, ap, ◌∙◌, append-nil, append_assoc, arith}
 use Rattle.std.proofs.lemmas.Bool.Decides.{nat_tests}
-use Rattle.std.specs.List.{flat_map}
-use Rattle.text_core.specs.Adds.{Adds, Tally}
-use Rattle.text_core.proofs.Adding.{then}
-use Rattle.record_core.specs.declared.cell.Form.TheVariants.{Text}
+use Rattle.std.proofs.lemmas.List.Splits.{join_with_byte-slice_split}
+use Rattle.text_core.specs.Words.{text_of, words_of}
+use Rattle.record_core.specs.Cells.{line_only}
+use Rattle.record_core.specs.Records.{record_text}
+use Rattle.record_core.specs.Values.{string}
+use Rattle.record_core.specs.declared.cell.Form.{Form}
+use Rattle.record_core.specs.declared.cell.Form.TheVariants.{Text, Json}
 use Rattle.audit_notes.specs.Kinds.{is_remark}
 use Rattle.audit_notes.specs.Lines.{lines_text}
 use Rattle.audit_notes.specs.Lines.AuditLine.{Note}
 use Rattle.audit_notes.specs.Notes.{kind_of}
 use Rattle.audit_notes.specs.declared.note.AuditNote.{AuditNote}
 use Rattle.expect_remarks.specs.Kept.{KeepsRemarks}
-use Rattle.expect_remarks.specs.Met.{WhatIsShownWasMet, is_met, said_of, shown_remarks, shown_with}
+use Rattle.expect_remarks.specs.Met.{WhatIsShownWasMet, is_met, said_of, shown_remark, shown_remarks}
 
 -- ---- the line of a remark
 
-pub with_lead : (a b z : Tally) (lead : List ℕ) (note : AuditNote) → Adds a b lead → Adds b z (lines_text Text (Note note ∷ [])) → Adds a z (shown_with lead note)
-with_lead a b z lead note first second =
-    subst (λ (text : List ℕ). Adds a z (lead ++ text)) (append-nil (said_of note ++ 10 ∷ [])) ((then) a b z lead (lines_text Text (Note note ∷ [])) first second)
-
 one_less : (n : ℕ) → suc n - 1 ≡ n
 one_less n = omega arith
-
--- the first of them, and the others
-pub first_shown : (lead : List ℕ) (notes : List AuditNote) (d : AuditNote) (a b c : Tally) → 1 ≤ length notes → Adds a b (shown_with lead (get_or notes 0 d))
-    → Adds b c (flat_map (shown_with lead) (drop 1 notes)) → Adds a c (flat_map (shown_with lead) notes)
-first_shown lead [] d a b c h one others = absurd (omega arith)
-first_shown lead (note ∷ notes) d a b c h one others = (then) a b c (shown_with lead note) (flat_map (shown_with lead) notes) one others
 
 before_last : (said : List ℕ) → take (length (said ++ 10 ∷ []) - 1) (said ++ 10 ∷ []) ≡ said
 before_last [] = refl
@@ -37,8 +30,14 @@ before_last (x ∷ y ∷ said) =
     ∙ ap (λ (text : List ℕ). x ∷ text) (before_last (y ∷ said))
 
 -- without its end
-pub without_last : (line : List ℕ) (note : AuditNote) → line ≡ flat_map (shown_with []) (note ∷ []) → take (length line - 1) line ≡ said_of note
+pub without_last : (line : List ℕ) (note : AuditNote) → line ≡ lines_text Text (Note note ∷ []) → take (length line - 1) line ≡ said_of note
 without_last line note e = ap (λ (text : List ℕ). take (length text - 1) text) (e ∙ append-nil (said_of note ++ 10 ∷ [])) ∙ before_last (said_of note)
+
+-- ---- words of a pattern
+
+-- the text of the words of a text is that text
+pub left_again : (text : List ℕ) → text ≡ text_of (words_of text)
+left_again text = sym (join_with_byte-slice_split 32 text)
 
 -- ---- remarks that are kept
 
@@ -60,9 +59,14 @@ more_met pattern met all new rest others note split e put before =
 
 -- ---- what is shown
 
+pub shown_as : (form : Form) (old new said : List ℕ) (note : AuditNote) → said ≡ said_of note → new ≡ old ++ record_text form (codes "other") (line_only (codes "# ") (string said) ∷ [])
+    → new ≡ old ++ shown_remark form note
+shown_as form old new said note is made = made ∙ ap (λ t. old ++ record_text form (codes "other") (line_only (codes "# ") (string t) ∷ [])) is
+
 some_length : (n : ℕ) → (suc n == 0) ≡ false
 some_length n = grind (arith, nat_tests)
 
 pub what_is_shown_was_met : WhatIsShownWasMet
-what_is_shown_was_met [] = refl
-what_is_shown_was_met (note ∷ remarks) = some_length (length (drop 1 (shown_remarks (note ∷ remarks)))) ∙ sym (some_length (length remarks))
+what_is_shown_was_met form [] = refl
+what_is_shown_was_met Text (note ∷ remarks) = some_length (length (drop 1 (shown_remarks Text (note ∷ remarks)))) ∙ sym (some_length (length remarks))
+what_is_shown_was_met Json (note ∷ remarks) = some_length (length (drop 1 (shown_remarks Json (note ∷ remarks)))) ∙ sym (some_length (length remarks))

@@ -1,47 +1,34 @@
 //! Which remarks meet a pattern, and how they are shown.
-ghost use Rattle.std.specs.Prelude.{◌≡◌, ◌-◌, ◌∷◌, ◌++◌, OnOk, IfOk, [], filter, length, take};
+ghost use Rattle.std.specs.Prelude.{◌≡◌, ◌-◌, ◌∷◌, ◌++◌, OnOk, IfOk, [], codes, filter, length, take};
 ghost use Rattle.std.specs.List.{flat_map, list_any};
 ghost use Rattle.std.specs.Option.{option_copied};
-ghost use Rattle.text_core.specs.Adds.{Adds};
 ghost use Rattle.text_core.specs.Cut.{WritesText};
 ghost use Rattle.text_core.specs.Held.{held_bytes};
-ghost use Rattle.expect_remarks.specs.Met.{is_met, is_met_by, remarks_met, said_of, shown_remarks, shown_with};
+ghost use Rattle.text_core.specs.Words.{text_of, words_after};
+ghost use Rattle.record_core.specs.Cells.{line_only};
+ghost use Rattle.record_core.specs.Records.{record_text};
+ghost use Rattle.record_core.specs.Values.{string};
+ghost use Rattle.record_core.specs.declared.cell.Form.TheVariants.{Text};
+ghost use Rattle.audit_notes.specs.Lines.{lines_text};
+ghost use Rattle.audit_notes.specs.Lines.AuditLine.{Note};
+ghost use Rattle.expect_remarks.specs.Met.{is_met, is_met_by, is_rest_met, remarks_met, said_of, shown_remark, shown_remarks};
 
+use crate::appended::append_record;
 use audit_notes::{AuditNote, LineHearer};
 use expect_text::fits;
-use json_trace::{after_word, word};
+use record_core::{Form, Value, cells};
 use std::alloc::{AllocError, Global};
-use text_core::{Counted, Held, Sink, WriteFault, after, before};
+use text_core::{Counted, Held, Sink, WriteFault, after, before, first_word};
 
 /// How many remarks are shown, at most.
 const SHOWN_MOST: usize = 8;
 
-// Adds a remark after what stands before it.
-fn add_remark<S: Sink>(out: &mut Counted<'_, S>, lead: &str, note: AuditNote)
-    ensures { Adds out.old out.new (shown_with lead.now note) }
-{
-    out.add(lead.as_bytes());
-    out.note(note);
-}
-
-// Adds these.
-#[tactic(auto, using(text_core::proofs::Adding::nothing, text_core::proofs::Adding::then))]
-fn add_remarks<S: Sink>(out: &mut Counted<'_, S>, lead: &str, remarks: &[AuditNote])
-    ensures { Adds out.old out.new (flat_map (shown_with lead.now) remarks.now) }
-{
-    let [note, remarks @ ..] = remarks else {
-        return;
-    };
-    add_remark(out, lead, *note);
-    add_remarks(out, lead, remarks);
-}
-
-// Writes them.
-fn write_remarks<S: Sink>(lead: &str, remarks: &[AuditNote], out: &mut S) -> Result<(), WriteFault>
-    ensures { WritesText (S.contents out.old) (S.contents out.new) (S.is_stuck out.old) (S.is_stuck out.new) (flat_map (shown_with lead.now) remarks.now) result }
+// Writes the line of a remark.
+fn write_remark<S: Sink>(note: AuditNote, out: &mut S) -> Result<(), WriteFault>
+    ensures { WritesText (S.contents out.old) (S.contents out.new) (S.is_stuck out.old) (S.is_stuck out.new) (lines_text Text (Note note ∷ [])) result }
 {
     let mut text = Counted::new(out);
-    add_remarks(&mut text, lead, remarks);
+    text.note(note);
     let written = text.written();
     // No effect at run time. The proof reads what `out` holds from the sink that comes back.
     let _below = text.into_sink();
@@ -53,10 +40,10 @@ fn write_remarks<S: Sink>(lead: &str, remarks: &[AuditNote], out: &mut S) -> Res
 
 // The line of a remark.
 fn line_of(alloc: Global, note: AuditNote) -> Result<Held, AllocError>
-    ensures { IfOk result (λ held. held_bytes held ≡ flat_map (shown_with []) (note ∷ [])) }
+    ensures { IfOk result (λ held. held_bytes held ≡ lines_text Text (Note note ∷ [])) }
 {
     let mut held = Held::new(alloc);
-    match write_remarks("", &[note], &mut held) {
+    match write_remark(note, &mut held) {
         Ok(()) => Ok(held),
         Err(_) => Err(AllocError),
     }
@@ -70,19 +57,35 @@ fn without_end(line: &[u8]) -> &[u8]
 
 // What a remark says, of its line.
 fn said_in(note: AuditNote, line: &[u8]) -> &[u8]
-    requires { line.now ≡ flat_map (shown_with []) (note ∷ []) }
+    requires { line.now ≡ lines_text Text (Note note ∷ []) }
     ensures { result.now ≡ said_of note }
 {
     without_end(line)
+}
+
+/// The text of the words that are left.
+#[tactic(auto, using(crate::proofs::Shown::left_again))]
+pub fn text_left(rest: Option<&[u8]>) -> &[u8]
+    ensures { result.now ≡ text_of (words_after (option_copied rest.entry)) }
+{
+    match rest {
+        None => b"",
+        Some(rest) => rest,
+    }
+}
+
+fn is_rest_met(rest: &[u8], said: &[u8]) -> bool
+    ensures { result ≡ is_rest_met rest.now said.now }
+{
+    rest.is_empty() || fits(rest, after(said, 2))
 }
 
 // Whether a remark meets a pattern, by what it says.
 fn is_met_by(pattern: &[u8], note: AuditNote, said: &[u8]) -> bool
     ensures { result ≡ is_met_by pattern.now note said.now }
 {
-    let rest = after_word(pattern);
-    fits(word(pattern), note.kind().name().as_bytes())
-        && (rest.is_empty() || fits(rest, after(said, 2)))
+    let (kind, rest) = first_word(pattern);
+    fits(kind, note.kind().name().as_bytes()) && is_rest_met(text_left(rest), said)
 }
 
 fn is_met(alloc: Global, pattern: &[u8], note: AuditNote) -> Result<bool, AllocError>
@@ -167,16 +170,58 @@ fn first_remarks(remarks: &[AuditNote]) -> &[AuditNote]
     }
 }
 
-/// Appends the first eight remarks, a line each.
+// Appends what a remark says.
+fn append_said(out: &mut Held, form: Form, said: &[u8]) -> Result<(), AllocError>
+    ensures { OnOk result (held_bytes out.new ≡ held_bytes out.old ++ record_text form (codes "other") (line_only (codes "# ") (string said.now) ∷ [])) }
+{
+    let cells = cells![line("# ", Value::String(said))];
+    append_record(out, form, "other", &cells)
+}
+
+#[tactic(auto, using(crate::proofs::Shown::shown_as))]
+fn append_remark(
+    alloc: Global,
+    out: &mut Held,
+    form: Form,
+    note: AuditNote,
+) -> Result<(), AllocError>
+    ensures { OnOk result (held_bytes out.new ≡ held_bytes out.old ++ shown_remark form note) }
+{
+    let line = line_of(alloc, note)?;
+    let said = said_in(note, line.bytes());
+    append_said(out, form, said)?;
+    Ok(())
+}
+
+// Appends these.
+fn append_each(
+    alloc: Global,
+    out: &mut Held,
+    form: Form,
+    remarks: &[AuditNote],
+) -> Result<(), AllocError>
+    ensures { OnOk result (held_bytes out.new ≡ held_bytes out.old ++ flat_map (shown_remark form) remarks.now) }
+{
+    let mut rest = remarks;
+    'remarks: while let [note, others @ ..] = rest {
+        append_remark(alloc, out, form, *note)?;
+        rest = others;
+    }
+    Ok(())
+}
+
+/// Appends the first eight remarks, a line each, or their objects.
 ///
 /// # Errors
 ///
 /// Want of memory.
-pub fn append_remarks(out: &mut Held, remarks: &[AuditNote]) -> Result<(), AllocError>
-    ensures { OnOk result (held_bytes out.new ≡ held_bytes out.old ++ shown_remarks remarks.now) }
+pub fn append_remarks(
+    alloc: Global,
+    out: &mut Held,
+    form: Form,
+    remarks: &[AuditNote],
+) -> Result<(), AllocError>
+    ensures { OnOk result (held_bytes out.new ≡ held_bytes out.old ++ shown_remarks form remarks.now) }
 {
-    match write_remarks("# ", first_remarks(remarks), out) {
-        Ok(()) => Ok(()),
-        Err(_) => Err(AllocError),
-    }
+    append_each(alloc, out, form, first_remarks(remarks))
 }

@@ -1,6 +1,5 @@
 -- What each line of a plain script gives in the same script that ends earlier.
-use Rattle.std.proofs.Common.{◌≡◌, ℕ, suc, ◌+◌, ◌-◌, ◌<◌, ◌≤◌, ◌==◌, ◌&&◌, ◌||◌, Bool, true, false, cond, codes, if◌then◌else◌, List, [], ◌∷◌, ◌++◌, length, min, filter, nat_lt, nat_le, slice_get, Option, Some, None, is_some, option_map, ◌⊎◌, Result, Ok, Err, All, refl, sym, ap, subst, ◌∙◌, arith, append-nil}
-use Rattle.std.specs.Str.{bytes_eq}
+use Rattle.std.proofs.Common.{◌≡◌, ℕ, suc, ◌+◌, ◌-◌, ◌<◌, ◌≤◌, ◌==◌, ◌&&◌, ◌||◌, Bool, true, false, cond, codes, if◌then◌else◌, List, [], ◌∷◌, ◌++◌, length, filter, nat_lt, nat_le, slice_get, Option, Some, None, is_some, option_map, ◌⊎◌, Result, Ok, Err, All, refl, sym, ap, subst, ◌∙◌, arith, append-nil}
 use Rattle.std.specs.Option.{option_map_or}
 use Rattle.std.proofs.lemmas.Bool.Decides.{nat_tests}
 use Rattle.std.proofs.lemmas.List.Elements.{All-head, All-tail, All-push, All-weaker, All-filter, filter-append}
@@ -8,14 +7,16 @@ use Rattle.edid_tree.specs.Node.{Node}
 use Rattle.edid_tree.specs.Tree.{device_named}
 use Rattle.line_wave.specs.declared.Stretch.{Stretch}
 use Rattle.line_wave.specs.declared.PulsesError.{PulsesError}
-use Rattle.line_wave.specs.Bounds.{latest_event, most_pulses, most_pulls, widest_pull}
+use Rattle.line_wave.specs.Bounds.{most_pulses, most_pulls, widest_pull}
 use Rattle.device_features.specs.declared.keys.Key.{Key as KeyValue}
-use Rattle.text_core.specs.Number.{number_of}
-use Rattle.text_core.specs.Words.{one_of, two_of, three_of}
+use Rattle.text_forms.specs.Forms.{Meaning, late_time_at, port_at, text_at, time_at, words_at}
+use Rattle.room_lines.specs.declared.script.ScriptVerb.{ScriptVerb}
+use Rattle.room_lines.specs.declared.script.ScriptVerb.TheVariants as verbs
 use Rattle.room_event.specs.declared.event.Event.{Event}
 use Rattle.room_event.specs.declared.event.Event.TheVariants.{Plug, Unplug, Key, Outside}
 use Rattle.room_event.specs.declared.event.HeaderNames.{HeaderNames}
-use Rattle.room_script.specs.Keys.{key_of}
+use Rattle.room_script.specs.Keys.{key_said}
+use Rattle.room_script.specs.Lines.{first_of, time_said}
 use Rattle.room_script.specs.Header.{header_names}
 use Rattle.room_script.specs.Sending.{handed_in}
 use Rattle.room_script.specs.Holding.{hold_of}
@@ -25,9 +26,8 @@ use Rattle.room_script.specs.declared.script.TimedEvent.{TimedEvent}
 use Rattle.text_core.specs.At.{at_word}
 use Rattle.text_core.specs.declared.at.AtWord.{AtWord}
 use Rattle.room_script.specs.declared.script.ScriptCause.{ScriptCause}
-use Rattle.room_script.specs.declared.script.ScriptCause.TheVariants.{Word, Width, Order, TooMany, End}
-use Rattle.room_script.specs.Script.{is_before as is_over, Notes, within_limit, time_of, last_time, last_end, notes_with_event, plug_read, plug_words, unplug_read, unplug_words, key_read, key_words, act_read, hold_words, drop_words, send_read, frame_event, event_words, unless_fault, pulse_refusal, span_read, pulse_read, pulse_words, touches, pull_read, pull_words, level_of, pin_falls, pin_stays_high, notes_with_level, pin_read, pin_words, pulses_ended, end_read, end_words, IsHandedRead, IsSendRead, IsEventRead, IsLineRead}
-use Rattle.expect_text.specs.Line.{is_before, is_sooner}
+use Rattle.room_script.specs.declared.script.ScriptCause.TheVariants.{Width, Order, TooMany, End}
+use Rattle.room_script.specs.Script.{is_before as is_over, Notes, last_time, last_end, notes_with_event, plug_checked, unplug_checked, key_read, key_time, act_read, send_read, frame_event, unless_fault, pulse_refusal, notes_with_pulse, touches, notes_with_pull, pin_falls, pin_stays_high, notes_with_level, pulses_ended, end_checked, IsHandedRead, IsLineRead, IsSaid}
 use Rattle.expect_run.specs.Cuts.{is_early}
 
 -- ---- what the lines so far say of a script that ends earlier
@@ -106,27 +106,14 @@ pub record Takes (time : Option ℕ) (line : ℕ) (R : Notes → Result Notes (A
 abbrev By : (Notes → Result Notes (AtWord ScriptCause)) → Notes → Result Notes (AtWord ScriptCause) → Type 0
 By f n read = read ≡ f n
 
-plug_takes : (line : ℕ) (time port child parent : Option ℕ) (notes next : Notes) → Ok next ≡ plug_read notes line time port child parent → Takes time line (By (λ n. plug_read n line time port child parent)) notes next
-plug_takes line None port child parent notes next e = cc
-plug_takes line (Some t) None child parent notes next e = cc
-plug_takes line (Some t) (Some p) None parent notes next e = cc
-plug_takes line (Some t) (Some p) (Some c) None notes next e = cc
-plug_takes line (Some t) (Some p) (Some c) (Some d) notes next e = record { at = t; event = Plug c d (min p 255); time_is = refl; reads = λ n. refl; now = e }
+plug_takes : (line time port : ℕ) (child parent : Option ℕ) (notes next : Notes) → Ok next ≡ plug_checked notes line time port child parent → Takes (Some time) line (By (λ n. plug_checked n line time port child parent)) notes next
+plug_takes line time port None parent notes next e = cc
+plug_takes line time port (Some c) None notes next e = cc
+plug_takes line time port (Some c) (Some d) notes next e = record { at = time; event = Plug c d port; time_is = refl; reads = λ n. refl; now = e }
 
-plug_words_take : (tree : List Node) (line : ℕ) (time : List ℕ) (many : ℕ) (words : Option (List ℕ × List ℕ × List ℕ)) (notes next : Notes) → Ok next ≡ plug_words tree notes line time many words
-    → Takes (time_of time) line (By (λ n. plug_words tree n line time many words)) notes next
-plug_words_take tree line time many None notes next e = cc
-plug_words_take tree line time many (Some w) notes next e = plug_takes line (time_of time) (number_of w.2) (device_named tree w.0) (device_named tree w.1) notes next e
-
-unplug_takes : (line : ℕ) (time child : Option ℕ) (notes next : Notes) → Ok next ≡ unplug_read notes line time child → Takes time line (By (λ n. unplug_read n line time child)) notes next
-unplug_takes line None child notes next e = cc
-unplug_takes line (Some t) None notes next e = cc
-unplug_takes line (Some t) (Some c) notes next e = record { at = t; event = Unplug c; time_is = refl; reads = λ n. refl; now = e }
-
-unplug_words_take : (tree : List Node) (line : ℕ) (time : List ℕ) (many : ℕ) (word : Option (List ℕ)) (notes next : Notes) → Ok next ≡ unplug_words tree notes line time many word
-    → Takes (time_of time) line (By (λ n. unplug_words tree n line time many word)) notes next
-unplug_words_take tree line time many None notes next e = cc
-unplug_words_take tree line time many (Some w) notes next e = unplug_takes line (time_of time) (device_named tree w) notes next e
+unplug_takes : (line time : ℕ) (child : Option ℕ) (notes next : Notes) → Ok next ≡ unplug_checked notes line time child → Takes (Some time) line (By (λ n. unplug_checked n line time child)) notes next
+unplug_takes line time None notes next e = cc
+unplug_takes line time (Some c) notes next e = record { at = time; event = Unplug c; time_is = refl; reads = λ n. refl; now = e }
 
 key_takes : (line : ℕ) (press : Bool) (key : Result KeyValue (AtWord ScriptCause)) (time device : Option ℕ) (notes next : Notes) → Ok next ≡ key_read notes line press key time device
     → Takes time line (By (λ n. key_read n line press key time device)) notes next
@@ -135,60 +122,12 @@ key_takes line press (Ok key) None device notes next e = cc
 key_takes line press (Ok key) (Some t) None notes next e = cc
 key_takes line press (Ok key) (Some t) (Some d) notes next e = record { at = t; event = Key d key press; time_is = refl; reads = λ n. refl; now = e }
 
-key_words_take : (tree : List Node) (line : ℕ) (press : Bool) (time : List ℕ) (words : List (List ℕ)) (notes next : Notes) → Ok next ≡ key_words tree notes line press time words
-    → Takes (time_of time) line (By (λ n. key_words tree n line press time words)) notes next
-key_words_take tree line press time [] notes next e = cc
-key_words_take tree line press time (name ∷ words) notes next e = key_takes line press (key_of words) (time_of time) (device_named tree name) notes next e
-
 act_takes : (line : ℕ) (act : Option Act) (time device : Option ℕ) (notes next : Notes) → Ok next ≡ act_read notes line act time device
     → Takes time line (By (λ n. act_read n line act time device)) notes next
 act_takes line None time device notes next e = cc
 act_takes line (Some act) None device notes next e = cc
 act_takes line (Some act) (Some t) None notes next e = cc
 act_takes line (Some act) (Some t) (Some d) notes next e = record { at = t; event = Outside d act; time_is = refl; reads = λ n. refl; now = e }
-
-hold_words_take : (tree : List Node) (line : ℕ) (time : List ℕ) (many : ℕ) (words : Option (List ℕ × List ℕ)) (notes next : Notes) → Ok next ≡ hold_words tree notes line time many words
-    → Takes (time_of time) line (By (λ n. hold_words tree n line time many words)) notes next
-hold_words_take tree line time many None notes next e = cc
-hold_words_take tree line time many (Some w) notes next e = act_takes line (hold_of w.1) (time_of time) (device_named tree w.0) notes next e
-
-drop_words_take : (tree : List Node) (line : ℕ) (time : List ℕ) (many : ℕ) (word : Option (List ℕ)) (notes next : Notes) → Ok next ≡ drop_words tree notes line time many word
-    → Takes (time_of time) line (By (λ n. drop_words tree n line time many word)) notes next
-drop_words_take tree line time many None notes next e = cc
-drop_words_take tree line time many (Some w) notes next e = act_takes line (Some Empty) (time_of time) (device_named tree w) notes next e
-
--- one of two
-by_either : (b : Bool) (time : Option ℕ) (line : ℕ) (f g : Notes → Result Notes (AtWord ScriptCause)) (notes next : Notes) → (Ok next ≡ f notes → Takes time line (By f) notes next)
-    → (Ok next ≡ g notes → Takes time line (By g) notes next) → Ok next ≡ (if b then f notes else g notes) → Takes time line (By (λ n. if b then f n else g n)) notes next
-by_either true time line f g notes next h k e = h e
-by_either false time line f g notes next h k e = k e
-
-no_event : (time : Option ℕ) (line : ℕ) (fault : AtWord ScriptCause) (notes next : Notes) → Ok next ≡ Err fault → Takes time line (By (λ n. Err fault)) notes next
-no_event time line fault notes next e = cc
-
-event_words_take : (tree : List Node) (line : ℕ) (time verb : List ℕ) (words : List (List ℕ)) (notes next : Notes) → Ok next ≡ event_words tree notes line time verb words
-    → Takes (time_of time) line (By (λ n. event_words tree n line time verb words)) notes next
-event_words_take tree line time verb words notes next e =
-    let t = time_of time in
-    let fail : Notes → Result Notes (AtWord ScriptCause) = λ n. Err (at_word 2 Word) in
-    let dropped : Notes → Result Notes (AtWord ScriptCause) = λ n. if bytes_eq verb (codes "drop") then drop_words tree n line time (length words) (one_of words) else fail n in
-    let held : Notes → Result Notes (AtWord ScriptCause) = λ n. if bytes_eq verb (codes "hold") then hold_words tree n line time (length words) (two_of words) else dropped n in
-    let released : Notes → Result Notes (AtWord ScriptCause) = λ n. if bytes_eq verb (codes "release") then key_words tree n line false time words else held n in
-    let pressed : Notes → Result Notes (AtWord ScriptCause) = λ n. if bytes_eq verb (codes "press") then key_words tree n line true time words else released n in
-    let unplugged : Notes → Result Notes (AtWord ScriptCause) = λ n. if bytes_eq verb (codes "unplug") then unplug_words tree n line time (length words) (one_of words) else pressed n in
-    by_either (bytes_eq verb (codes "plug")) t line (λ n. plug_words tree n line time (length words) (three_of words)) unplugged notes next
-    (plug_words_take tree line time (length words) (three_of words) notes next)
-    (by_either (bytes_eq verb (codes "unplug")) t line (λ n. unplug_words tree n line time (length words) (one_of words)) pressed notes next
-    (unplug_words_take tree line time (length words) (one_of words) notes next)
-    (by_either (bytes_eq verb (codes "press")) t line (λ n. key_words tree n line true time words) released notes next
-    (key_words_take tree line true time words notes next)
-    (by_either (bytes_eq verb (codes "release")) t line (λ n. key_words tree n line false time words) held notes next
-    (key_words_take tree line false time words notes next)
-    (by_either (bytes_eq verb (codes "hold")) t line (λ n. hold_words tree n line time (length words) (two_of words)) dropped notes next
-    (hold_words_take tree line time (length words) (two_of words) notes next)
-    (by_either (bytes_eq verb (codes "drop")) t line (λ n. drop_words tree n line time (length words) (one_of words)) fail notes next
-    (drop_words_take tree line time (length words) (one_of words) notes next)
-    (no_event t line (at_word 2 Word) notes next)))))) e
 
 send_takes : (line word : ℕ) (time : Option ℕ) (attempts : Option (Option ℕ)) (device : Option ℕ) (names : Option (Option HeaderNames)) (frame : Result (List ℕ) (AtWord ScriptCause)) (notes next : Notes)
     → Ok next ≡ send_read notes line word time attempts device names frame → Takes time line (By (λ n. send_read n line word time attempts device names frame)) notes next
@@ -199,28 +138,33 @@ send_takes line word (Some t) (Some m) (Some d) None frame notes next e = cc
 send_takes line word (Some t) (Some m) (Some d) (Some names) (Err fault) notes next e = cc
 send_takes line word (Some t) (Some m) (Some d) (Some names) (Ok frame) notes next e = record { at = t; event = frame_event d (record { line = line; attempts = m }) names frame; time_is = refl; reads = λ n. refl; now = e }
 
-handed_takes : (tree : List Node) (line : ℕ) (time name : List ℕ) (at : ℕ) (attempts : Option (Option ℕ)) (words : List (List ℕ)) (notes next : Notes) → IsHandedRead tree notes line time name at attempts words (Ok next)
-    → Takes (time_of time) line (λ n read. IsHandedRead tree n line time name at attempts words read) notes next
+handed_takes : (tree : List Node) (line : ℕ) (time : Option ℕ) (name : List ℕ) (at : ℕ) (attempts : Option (Option ℕ)) (words : List (List ℕ)) (notes next : Notes) → IsHandedRead tree notes line time name at attempts words (Ok next)
+    → Takes time line (λ n read. IsHandedRead tree n line time name at attempts words read) notes next
 handed_takes tree line time name at attempts [] notes next h = cc
 handed_takes tree line time name at attempts (word ∷ words) notes next h =
-    let s = send_takes line at (time_of time) attempts (device_named tree name) (header_names tree word) h.0 notes next h.2 in
+    let s = send_takes line at time attempts (device_named tree name) (header_names tree word) h.0 notes next h.2 in
     record { at = s.at; event = s.event; time_is = s.time_is; reads = λ n. (h.0, h.1, s.reads n); now = s.now }
 
-send_words_take : (tree : List Node) (line : ℕ) (time : List ℕ) (words : List (List ℕ)) (notes next : Notes) → IsSendRead tree notes line time words (Ok next)
-    → Takes (time_of time) line (λ n read. IsSendRead tree n line time words read) notes next
-send_words_take tree line time [] notes next h = cc
-send_words_take tree line time (name ∷ words) notes next h = handed_takes tree line time name (handed_in words).at (handed_in words).attempts (handed_in words).words notes next h
+-- what the values of a row make of any notes
+abbrev pub Says : List Node → ℕ → ScriptVerb → List Meaning → Notes → Result Notes (AtWord ScriptCause) → Type 0
+Says tree line verb values n read = IsSaid tree n (length n.pulses) line verb values read
 
-by_cond : (b : Bool) (time : Option ℕ) (line : ℕ) (P Q : Notes → Result Notes (AtWord ScriptCause) → Type 0) (notes next : Notes) → (P notes (Ok next) → Takes time line P notes next)
-    → (Q notes (Ok next) → Takes time line Q notes next) → cond {A = Type 0} b (P notes (Ok next)) (Q notes (Ok next)) → Takes time line (λ n read. cond {A = Type 0} b (P n read) (Q n read)) notes next
-by_cond true time line P Q notes next h k e = h e
-by_cond false time line P Q notes next h k e = k e
-
-pub event_takes : (tree : List Node) (line : ℕ) (time verb : List ℕ) (words : List (List ℕ)) (notes next : Notes) → IsEventRead tree notes line (time ∷ verb ∷ words) (Ok next)
-    → Takes (time_of time) line (λ n read. IsEventRead tree n line (time ∷ verb ∷ words) read) notes next
-event_takes tree line time verb words notes next h =
-    by_cond (bytes_eq verb (codes "send")) (time_of time) line (λ n read. IsSendRead tree n line time words read) (By (λ n. event_words tree n line time verb words)) notes next
-    (send_words_take tree line time words notes next) (event_words_take tree line time verb words notes next) h
+-- a row of an event
+pub event_takes : (tree : List Node) (line : ℕ) (verb : ScriptVerb) (values : List Meaning) (notes next : Notes) → first_of verb ≡ codes "at" → Says tree line verb values notes (Ok next)
+    → Takes (time_said verb values) line (Says tree line verb values) notes next
+event_takes tree line (verbs.Press word) values notes next at h = key_takes line true (key_said word values) (key_time word values) (device_named tree (text_at values 3)) notes next h
+event_takes tree line (verbs.Release word) values notes next at h = key_takes line false (key_said word values) (key_time word values) (device_named tree (text_at values 3)) notes next h
+event_takes tree line verbs.Plug values notes next at h = plug_takes line (time_at values 1) (port_at values 5) (device_named tree (text_at values 3)) (device_named tree (text_at values 4)) notes next h
+event_takes tree line verbs.Unplug values notes next at h = unplug_takes line (time_at values 1) (device_named tree (text_at values 3)) notes next h
+event_takes tree line verbs.Send values notes next at h =
+    let handed = handed_in (words_at values 4) in
+    handed_takes tree line (late_time_at values 1) (text_at values 3) handed.at handed.attempts handed.words notes next h
+event_takes tree line verbs.Hold values notes next at h = act_takes line (hold_of (text_at values 4)) (late_time_at values 1) (device_named tree (text_at values 3)) notes next h
+event_takes tree line verbs.Drop values notes next at h = act_takes line (Some Empty) (Some (time_at values 1)) (device_named tree (text_at values 3)) notes next h
+event_takes tree line verbs.Pulse values notes next at h = cc
+event_takes tree line verbs.Pull values notes next at h = cc
+event_takes tree line verbs.Pin values notes next at h = cc
+event_takes tree line verbs.End values notes next at h = cc
 
 -- ---- one line
 
@@ -303,16 +247,8 @@ late_gone notes next line at time event t late =
     filter-append (is_early time) notes.events (one ∷ []) ∙ ap (λ b. filter (is_early time) notes.events ++ cond b (one ∷ []) []) late ∙ append-nil (filter (is_early time) notes.events) in
     ap (cut_notes time) t.next_is ∙ ap (λ (es : List TimedEvent). record (cut_notes time notes) { events = es }) more
 
-in_limit : (n : Option ℕ) (t : ℕ) → within_limit n ≡ Some t → n ≡ Some t
-in_limit None t e = cc
-in_limit (Some m) t e = by (nat_lt latest_event m) e
-  where
-    by : (b : Bool) → (if b then None else Some m) ≡ Some t → Some m ≡ Some t
-    by true e = cc
-    by false e = e
-
 -- a line with an event, where it is not skipped
-event_goes : (tree : List Node) (time line at : ℕ) (text : List ℕ) (event : Event) (notes next : Notes) → AreInOrder notes.events → Taken notes line at event next
+pub event_goes : (tree : List Node) (time line at : ℕ) (text : List ℕ) (event : Event) (notes next : Notes) → AreInOrder notes.events → Taken notes line at event next
     → ((n : Notes) → IsLineRead tree n (length n.pulses) line text (notes_with_event n line at event)) → Goes tree time line text (if nat_lt at time then text else []) notes next
 event_goes tree time line at text event notes next order t reads = record {
   order = subst (λ (n : Notes). AreInOrder n.events) (sym t.next_is) (order_push notes.events (record { line = line; at = at; event = event }) order (not_before at (last_time notes.events) t.after));
@@ -326,18 +262,6 @@ event_goes tree time line at text event notes next order t reads = record {
     by : (b : Bool) → nat_lt at time ≡ b → IsLineRead tree (cut_notes time notes) (length notes.pulses) line (if b then text else []) (Ok (cut_notes time next))
     by true e = subst (λ r. IsLineRead tree (cut_notes time notes) (length notes.pulses) line text r) (early_kept notes next line at time event order t e) (reads (cut_notes time notes))
     by false e = ap Ok (late_gone notes next line at time event t e)
-
--- the words of a line that an event's verb begins
-pub at_goes : (tree : List Node) (time line : ℕ) (text : List ℕ) (words : List (List ℕ)) (notes next : Notes) → AreInOrder notes.events → IsEventRead tree notes line words (Ok next)
-    → ((n : Notes) (read : Result Notes (AtWord ScriptCause)) → IsEventRead tree n line words read → IsLineRead tree n (length n.pulses) line text read) → (verb : List ℕ)
-    → Goes tree time line text (if is_before time (verb ∷ words) then text else []) notes next
-at_goes tree time line text [] notes next order h up verb = cc
-at_goes tree time line text (at ∷ []) notes next order h up verb = cc
-at_goes tree time line text (word ∷ kind ∷ words) notes next order h up verb =
-    let t = event_takes tree line word kind words notes next h in
-    let when : number_of word ≡ Some t.at = in_limit (number_of word) t.at t.time_is in
-    subst (λ o. Goes tree time line text (if is_sooner time o then text else []) notes next) (sym when)
-    (event_goes tree time line t.at text t.event notes next order (taken notes line t.at t.event next t.now) (λ n. up n (notes_with_event n line t.at t.event) (t.reads n)))
 
 -- ---- pulses
 
@@ -366,56 +290,40 @@ opens time notes next found e events same_end above =
       open_end = above;
     }
 
-pub pulse_goes : (time : ℕ) (notes next : Notes) (many : ℕ) (words : Option (List ℕ × List ℕ)) → Ok next ≡ pulse_words notes (length notes.pulses) many words
-    → Opens time notes next (pulse_words (cut_notes time notes) (length notes.pulses) many words)
-pulse_goes time notes next many None e = cc
-pulse_goes time notes next many (Some w) e = read (time_of w.0) (number_of w.1) e
+pub pulse_goes : (time : ℕ) (notes next : Notes) (pulse : Stretch) → Ok next ≡ notes_with_pulse notes (length notes.pulses) pulse → Opens time notes next (notes_with_pulse (cut_notes time notes) (length notes.pulses) pulse)
+pulse_goes time notes next pulse e = faulted (pulse_refusal notes.pin (last_end notes.pulses) pulse) e
   where
-    more : Stretch → Notes → Notes
-    more pulse n = record n { pulses = n.pulses ++ pulse ∷ [] }
+    more : Notes → Notes
+    more n = record n { pulses = n.pulses ++ pulse ∷ [] }
 
-    by : (a b : Bool) (pulse : Stretch) → is_some notes.end ≡ b → Ok next ≡ (if a then Err (at_word 0 TooMany) else if b then Err (at_word 0 End) else Ok (more pulse notes))
-        → Opens time notes next (if a then Err (at_word 0 TooMany) else if is_some (option_map (λ (t : ℕ). time) notes.end) then Err (at_word 0 End) else Ok (more pulse (cut_notes time notes)))
-    by true b pulse p e = cc
-    by false true pulse p e = cc
-    by false false pulse p e = opens time notes next (more pulse notes) e refl refl p
+    by : (a b : Bool) → is_some notes.end ≡ b → Ok next ≡ (if a then Err (at_word 0 TooMany) else if b then Err (at_word 0 End) else Ok (more notes))
+        → Opens time notes next (if a then Err (at_word 0 TooMany) else if is_some (option_map (λ (t : ℕ). time) notes.end) then Err (at_word 0 End) else Ok (more (cut_notes time notes)))
+    by true b p e = cc
+    by false true p e = cc
+    by false false p e = opens time notes next (more notes) e refl refl p
 
-    faulted : (o : Option PulsesError) (pulse : Stretch) → Ok next ≡ unless_fault o notes (length notes.pulses) pulse → Opens time notes next (unless_fault o (cut_notes time notes) (length notes.pulses) pulse)
-    faulted None pulse e = by (nat_le most_pulses (length notes.pulses)) (is_some notes.end) pulse refl e
-    faulted (Some fault) pulse e = cc
-
-    read : (from width : Option ℕ) → Ok next ≡ pulse_read notes (length notes.pulses) (span_read from width) → Opens time notes next (pulse_read (cut_notes time notes) (length notes.pulses) (span_read from width))
-    read None width e = cc
-    read (Some from) None e = cc
-    read (Some from) (Some width) e =
-        let pulse : Stretch = record { from = from; to = from + min width 65535 } in
-        faulted (pulse_refusal notes.pin (last_end notes.pulses) pulse) pulse e
+    faulted : (o : Option PulsesError) → Ok next ≡ unless_fault o notes (length notes.pulses) pulse → Opens time notes next (unless_fault o (cut_notes time notes) (length notes.pulses) pulse)
+    faulted None e = by (nat_le most_pulses (length notes.pulses)) (is_some notes.end) refl e
+    faulted (Some fault) e = cc
 
 -- ---- pulls
 
-pub pull_goes : (time : ℕ) (notes next : Notes) (many : ℕ) (words : Option (List ℕ × List ℕ)) → Ok next ≡ pull_words notes (length notes.pulses) many words
-    → Opens time notes next (pull_words (cut_notes time notes) (length notes.pulses) many words)
-pull_goes time notes next many None e = cc
-pull_goes time notes next many (Some w) e = read (time_of w.0) (number_of w.1) e
+pub pull_goes : (time : ℕ) (notes next : Notes) (from width : ℕ) → Ok next ≡ notes_with_pull notes (length notes.pulses) from width → Opens time notes next (notes_with_pull (cut_notes time notes) (length notes.pulses) from width)
+pull_goes time notes next from width e =
+    by (width == 0 || nat_lt widest_pull width) (is_some notes.pin || touches (last_end notes.pulses) from) (nat_le most_pulls (length notes.pulses)) (is_some notes.end) refl e
   where
-    more : ℕ → ℕ → Notes → Notes
-    more from width n = record n { pulses = n.pulses ++ record { from = from; to = from + width } ∷ [] }
+    more : Notes → Notes
+    more n = record n { pulses = n.pulses ++ record { from = from; to = from + width } ∷ [] }
 
-    by : (misfits near full ended : Bool) (from width : ℕ) → is_some notes.end ≡ ended
-        → Ok next ≡ (if misfits then Err (at_word 2 Width) else if near then Err (at_word 1 Order) else if full then Err (at_word 0 TooMany) else if ended then Err (at_word 0 End) else Ok (more from width notes))
+    by : (misfits near full ended : Bool) → is_some notes.end ≡ ended
+        → Ok next ≡ (if misfits then Err (at_word 2 Width) else if near then Err (at_word 1 Order) else if full then Err (at_word 0 TooMany) else if ended then Err (at_word 0 End) else Ok (more notes))
         → Opens time notes next (if misfits then Err (at_word 2 Width) else if near then Err (at_word 1 Order) else if full then Err (at_word 0 TooMany)
-        else if is_some (option_map (λ (t : ℕ). time) notes.end) then Err (at_word 0 End) else Ok (more from width (cut_notes time notes)))
-    by true near full ended from width p e = cc
-    by false true full ended from width p e = cc
-    by false false true ended from width p e = cc
-    by false false false true from width p e = cc
-    by false false false false from width p e = opens time notes next (more from width notes) e refl refl p
-
-    read : (from width : Option ℕ) → Ok next ≡ pull_read notes (length notes.pulses) (span_read from width) → Opens time notes next (pull_read (cut_notes time notes) (length notes.pulses) (span_read from width))
-    read None width e = cc
-    read (Some from) None e = cc
-    read (Some from) (Some width) e =
-        by (width == 0 || nat_lt widest_pull width) (is_some notes.pin || touches (last_end notes.pulses) from) (nat_le most_pulls (length notes.pulses)) (is_some notes.end) from width refl e
+        else if is_some (option_map (λ (t : ℕ). time) notes.end) then Err (at_word 0 End) else Ok (more (cut_notes time notes)))
+    by true near full ended p e = cc
+    by false true full ended p e = cc
+    by false false true ended p e = cc
+    by false false false true p e = cc
+    by false false false false p e = opens time notes next (more notes) e refl refl p
 
 -- ---- the pin
 
@@ -452,7 +360,7 @@ stays time notes next found e events same_end =
       cut_is = ap (λ (n : Notes). Ok (cut_notes time n)) (sym same);
     }
 
-level_goes : (time : ℕ) (notes next : Notes) (at : ℕ) (pin : Option ℕ) (level : Bool) → Ok next ≡ notes_with_level notes (length notes.pulses) at pin level
+pub level_goes : (time : ℕ) (notes next : Notes) (at : ℕ) (pin : Option ℕ) (level : Bool) → Ok next ≡ notes_with_level notes (length notes.pulses) at pin level
     → Stays time notes next (notes_with_level (cut_notes time notes) (length notes.pulses) at pin level)
 level_goes time notes next at None false e = (fall_goes time notes next at e).stays
 level_goes time notes next at None true e = (high_goes time notes next at e).stays
@@ -470,45 +378,23 @@ level_goes time notes next at (Some from) true e = by (nat_le at from) e
     by true e = cc
     by false e = stays time notes next (risen notes) e refl refl
 
-pub pin_goes : (time : ℕ) (notes next : Notes) (many : ℕ) (words : Option (List ℕ × List ℕ)) → Ok next ≡ pin_words notes (length notes.pulses) many words
-    → Stays time notes next (pin_words (cut_notes time notes) (length notes.pulses) many words)
-pin_goes time notes next many None e = cc
-pin_goes time notes next many (Some w) e = read (time_of w.0) (level_of w.1) e
-  where
-    read : (at : Option ℕ) (level : Option Bool) → Ok next ≡ pin_read notes (length notes.pulses) at level → Stays time notes next (pin_read (cut_notes time notes) (length notes.pulses) at level)
-    read None level e = cc
-    read (Some at) None e = cc
-    read (Some at) (Some level) e = level_goes time notes next at notes.pin level e
-
 -- a line of a pin that is high stands above the end
-pub pin_opens : (notes next : Notes) (many : ℕ) (words : Option (List ℕ × List ℕ)) → notes.pin ≡ None → Ok next ≡ pin_words notes (length notes.pulses) many words → is_some notes.end ≡ false
-pin_opens notes next many None high e = cc
-pin_opens notes next many (Some w) high e = read (time_of w.0) (level_of w.1) e
+pub pin_opens : (notes next : Notes) (at : ℕ) (level : Bool) → notes.pin ≡ None → Ok next ≡ notes_with_level notes (length notes.pulses) at notes.pin level → is_some notes.end ≡ false
+pin_opens notes next at level high e = by level (subst (λ (pin : Option ℕ). Ok next ≡ notes_with_level notes (length notes.pulses) at pin level) high e)
   where
-    by : (at : ℕ) (level : Bool) → Ok next ≡ notes_with_level notes (length notes.pulses) at None level → is_some notes.end ≡ false
-    by at false e = (fall_goes 0 notes next at e).open_end
-    by at true e = (high_goes 0 notes next at e).open_end
-
-    read : (at : Option ℕ) (level : Option Bool) → Ok next ≡ pin_read notes (length notes.pulses) at level → is_some notes.end ≡ false
-    read None level e = cc
-    read (Some at) None e = cc
-    read (Some at) (Some level) e = by at level (subst (λ (pin : Option ℕ). Ok next ≡ notes_with_level notes (length notes.pulses) at pin level) high e)
+    by : (level : Bool) → Ok next ≡ notes_with_level notes (length notes.pulses) at None level → is_some notes.end ≡ false
+    by false e = (fall_goes 0 notes next at e).open_end
+    by true e = (high_goes 0 notes next at e).open_end
 
 -- ---- the end
 
-pub end_given : (notes next : Notes) (many : ℕ) (word : Option (List ℕ)) → Ok next ≡ end_words notes many word
-    → (t : ℕ) × (is_some notes.end ≡ false) × (next ≡ record notes { pulses = pulses_ended notes.pin notes.pulses t; end = Some t; pin = None })
-end_given notes next many None e = cc
-end_given notes next many (Some word) e = read (time_of word) e
+pub end_given : (notes next : Notes) (t : ℕ) → Ok next ≡ end_checked notes t → (is_some notes.end ≡ false) × (next ≡ record notes { pulses = pulses_ended notes.pin notes.pulses t; end = Some t; pin = None })
+end_given notes next t e = by (is_some notes.end) (nat_lt 0 (length notes.events) && nat_le t (last_time notes.events)) refl e
   where
-    over : ℕ → Notes
-    over t = record notes { pulses = pulses_ended notes.pin notes.pulses t; end = Some t; pin = None }
+    over : Notes
+    over = record notes { pulses = pulses_ended notes.pin notes.pulses t; end = Some t; pin = None }
 
-    by : (a b : Bool) (t : ℕ) → is_some notes.end ≡ a → Ok next ≡ (if a then Err (at_word 0 End) else if b then Err (at_word 1 End) else Ok (over t)) → (t : ℕ) × (is_some notes.end ≡ false) × (next ≡ over t)
-    by true b t p e = cc
-    by false true t p e = cc
-    by false false t p e = (t, p, ok_same next (over t) e)
-
-    read : (o : Option ℕ) → Ok next ≡ end_read notes o → (t : ℕ) × (is_some notes.end ≡ false) × (next ≡ over t)
-    read None e = cc
-    read (Some t) e = by (is_some notes.end) (nat_lt 0 (length notes.events) && nat_le t (last_time notes.events)) t refl e
+    by : (a b : Bool) → is_some notes.end ≡ a → Ok next ≡ (if a then Err (at_word 0 End) else if b then Err (at_word 1 End) else Ok over) → (is_some notes.end ≡ false) × (next ≡ over)
+    by true b p e = cc
+    by false true p e = cc
+    by false false p e = (p, ok_same next over e)

@@ -1,16 +1,20 @@
 -- A plain script that ends earlier says the same events before then, the same pulses and pulls, and that end, which lets the pin go.
-use Rattle.std.proofs.Common.{◌≡◌, ℕ, suc, ◌+◌, ◌^◌, ◌<◌, ◌≤◌, ◌==◌, ◌&&◌, Bool, true, false, cond, codes, if◌then◌else◌, List, [], ◌∷◌, ◌++◌, length, map, filter, nat_lt, nat_le, Option, Some, None, is_some, option_map, inl, inr, Result, Ok, Err, refl, sym, ap, subst, ◌∙◌, arith, ne_eqb}
-use Rattle.std.specs.Str.{bytes_eq}
+use Rattle.std.proofs.Common.{◌≡◌, ℕ, suc, ◌+◌, ◌^◌, ◌<◌, ◌≤◌, ◌==◌, ◌&&◌, Bool, true, false, cond, codes, if◌then◌else◌, List, [], ◌∷◌, ◌++◌, length, map, min, filter, nat_lt, nat_le, Some, None, is_some, option_map, inl, inr, Result, Ok, Err, refl, sym, ap, subst, ◌∙◌, arith, ne_eqb}
 use Rattle.std.specs.Fmt.{decimal}
 use Rattle.std.proofs.lemmas.Bool.Decides.{nat_tests}
-use Rattle.std.proofs.lemmas.Slice.Eq.{bytes_eq-Decides}
 use Rattle.std.specs.Char.{digit_value}
 use Rattle.std.proofs.lemmas.List.Elements.{All-nil, filter_passes}
 use Rattle.std.proofs.lemmas.List.Splits.{slice_split_at, slice_split_none}
 use Rattle.edid_tree.specs.Node.{Node}
 use Rattle.line_wave.specs.Bounds.{latest_event}
 use Rattle.text_core.specs.Lines.{lines_of, is_skipped}
-use Rattle.text_core.specs.Words.{words_of, one_of, two_of}
+use Rattle.text_core.specs.Number.{number_of}
+use Rattle.text_core.specs.Words.{words_of}
+use Rattle.text_forms.specs.Forms.{Meaning, Place, Said, fault_in, is_whole, level_at, meanings_of, number_at, read_by, row_of, time_at}
+use Rattle.text_forms.specs.Forms.Meaning.{Itself, Number}
+use Rattle.text_forms.specs.declared.form.Slot.TheVariants as slots
+use Rattle.room_lines.specs.declared.script.ScriptVerb.{ScriptVerb}
+use Rattle.room_lines.specs.declared.script.ScriptVerb.TheVariants as verbs
 use Rattle.capture_core.specs.Texts.{Lacks}
 use Rattle.capture_core.proofs.Numbers.{number_again}
 use Rattle.capture_core.proofs.Texts.{more_lack, none_lack, number_lacks, number_plain}
@@ -18,13 +22,15 @@ use Rattle.room_script.specs.declared.script.TimedEvent.{TimedEvent}
 use Rattle.text_core.specs.At.{at_word}
 use Rattle.text_core.specs.declared.at.AtWord.{AtWord}
 use Rattle.room_script.specs.declared.script.ScriptCause.{ScriptCause}
-use Rattle.room_script.specs.declared.script.ScriptCause.TheVariants.{Word, End}
-use Rattle.room_script.specs.Script.{Course, Notes, time_of, last_time, pulse_words, pull_words, pin_words, pulses_ended, end_read, end_words, other_words, course_at_end, no_notes, IsEventRead, IsWordsRead, IsLineRead, Onward, AreLinesRead}
+use Rattle.room_script.specs.declared.script.ScriptCause.TheVariants.{End}
+use Rattle.room_script.specs.Script.{Course, Notes, last_time, notes_with_event, notes_with_pulse, notes_with_pull, notes_with_level, pulse_of, pulses_ended, end_checked, course_at_end, line_said, no_notes, IsLineRead, IsSaid, IsSaidRead, Onward, AreLinesRead}
+use Rattle.room_script.specs.Lines.{first_of}
+use Rattle.room_script.proofs.Begins.{lines_begin}
 use Rattle.text_core.specs.declared.at.At.{At}
-use Rattle.expect_text.specs.Line.{cut_line, cut_script, has_verb, is_before, is_event}
+use Rattle.expect_text.specs.Line.{cut_line, cut_script, has_verb, is_before, is_event, is_sooner}
 use Rattle.expect_run.specs.Cuts.{CutsAreRead, IsCut, is_early}
 use Rattle.expect_run.proofs.EachLine.{lines_each}
-use Rattle.expect_run.proofs.CutNotes.{cut_notes, notes_ended, AreInOrder, early_end, event_takes, taken, Ends, Gone, Stays, pulse_goes, pull_goes, pin_goes, pin_opens, end_given, some_end, AreSame, ok_same, at_goes}
+use Rattle.expect_run.proofs.CutNotes.{cut_notes, notes_ended, AreInOrder, early_end, event_goes, event_takes, taken, Ends, Goes, Gone, Says, Stays, pulse_goes, pull_goes, level_goes, pin_opens, end_given, some_end, AreSame, ok_same}
 
 -- the line `end T`
 abbrev end_line : ℕ → List ℕ
@@ -45,16 +51,35 @@ end_line_reported time = reported (110 ∷ 100 ∷ 32 ∷ decimal time)
     reported : (cs : List ℕ) → is_skipped (101 ∷ cs) ≡ false
     reported cs = rw (ne_eqb (suc (length cs)) 0 (omega arith)) refl
 
-time_again : (time : ℕ) → time ≤ latest_event → time_of (decimal time) ≡ Some time
-time_again time low =
-    let within : nat_lt latest_event time ≡ false = grind (arith, nat_tests) in
-    rw (number_again time (omega (arith, low))) (rw within refl)
+abbrev end_form : List Place
+end_form = (slots.Word, codes "end") ∷ (slots.Time, codes "T") ∷ []
 
-end_cut : (time : ℕ) (notes : Notes) → time ≤ latest_event → is_some notes.end ≡ false → end_words (cut_notes time notes) 1 (Some (decimal time)) ≡ Ok (notes_ended time notes)
+abbrev end_values : ℕ → List Meaning
+end_values time = Itself ∷ Number time ∷ []
+
+end_row : (w : List ℕ) → line_said (codes "end" ∷ w ∷ []) ≡ read_by verbs.End end_form (codes "end" ∷ w ∷ [])
+unfolding line_said row_of is_whole
+end_row w = refl
+
+end_read : (w : List ℕ) (time : ℕ) → number_of w ≡ Some time → nat_lt latest_event time ≡ false → read_by verbs.End end_form (codes "end" ∷ w ∷ []) ≡ Ok (verbs.End, end_values time)
+unfolding fault_in meanings_of
+end_read w time is within = rw (is, within) refl
+
+within : (time : ℕ) → time ≤ latest_event → nat_lt latest_event time ≡ false
+within time low = grind (arith, nat_tests)
+
+least : (time : ℕ) → time ≤ latest_event → min time latest_event ≡ time
+least time low = omega (arith, low)
+
+end_line_said : (time : ℕ) → time ≤ latest_event → line_said (words_of (end_line time)) ≡ Ok (verbs.End, end_values time)
+end_line_said time low =
+    ap line_said (end_line_words time (omega (arith, low))) ∙ end_row (decimal time) ∙ end_read (decimal time) time (number_again time (omega (arith, low))) (within time low)
+
+end_cut : (time : ℕ) (notes : Notes) → time ≤ latest_event → is_some notes.end ≡ false → end_checked (cut_notes time notes) (time_at (end_values time) 1) ≡ Ok (notes_ended time notes)
 end_cut time notes low unended =
     let early : (nat_lt 0 (length (filter (is_early time) notes.events)) && nat_le time (last_time (filter (is_early time) notes.events))) ≡ false =
     early_end time (filter (is_early time) notes.events) (filter_passes (is_early time) notes.events) in
-    ap (end_read (cut_notes time notes)) (time_again time low)
+    ap (end_checked (cut_notes time notes)) (least time low)
     ∙ chosen (is_some (option_map (λ (t : ℕ). time) notes.end)) (nat_lt 0 (length (filter (is_early time) notes.events)) && nat_le time (last_time (filter (is_early time) notes.events)))
     (notes_ended time notes) (some_end time notes.end ∙ unended) early
   where
@@ -63,167 +88,129 @@ end_cut time notes low unended =
     chosen false true n p q = cc
     chosen false false n p q = refl
 
-end_goes : (tree : List Node) (time line : ℕ) (notes next : Notes) (many : ℕ) (word : Option (List ℕ)) → time ≤ latest_event → Ok next ≡ end_words notes many word → Ends tree time line (end_line time) notes next
-end_goes tree time line notes next many word low e =
-    let given = end_given notes next many word e in
-    let read : Ok (notes_ended time notes) ≡ end_words (cut_notes time notes) 1 (Some (decimal time)) = sym (end_cut time notes low given.1) in
-    let worded : IsWordsRead tree (cut_notes time notes) (length notes.pulses) line (words_of (end_line time)) (Ok (notes_ended time notes)) =
-    subst (λ ws. IsWordsRead tree (cut_notes time notes) (length notes.pulses) line ws (Ok (notes_ended time notes))) (sym (end_line_words time (omega (arith, low)))) read in
-    record {
-      at = given.0;
-      next_is = given.2;
-      cut_is = subst (λ b. cond {A = Type 0} b (AreSame (notes_ended time notes) (cut_notes time notes)) (IsWordsRead tree (cut_notes time notes) (length notes.pulses) line (words_of (end_line time)) (Ok (notes_ended time notes))))
-          (sym (end_line_reported time)) worded;
-    }
-
 -- ---- a line
 
--- what a line that is not skipped gives by its words
-reported_line : (tree : List Node) (n : Notes) (line : ℕ) (text : List ℕ) (read : Result Notes (AtWord ScriptCause)) → is_skipped text ≡ false → IsWordsRead tree n (length n.pulses) line (words_of text) read → IsLineRead tree n (length n.pulses) line text read
-reported_line tree n line text read e h = subst (λ b. cond {A = Type 0} b (read ≡ Ok n) (IsWordsRead tree n (length n.pulses) line (words_of text) read)) (sym e) h
+-- what a line that is not skipped gives by its row
+row_read : (tree : List Node) (n : Notes) (waiting line : ℕ) (text : List ℕ) (verb : ScriptVerb) (values : List Meaning) (read : Result Notes (AtWord ScriptCause)) → is_skipped text ≡ false → line_said (words_of text) ≡ Ok (verb, values)
+    → IsSaid tree n waiting line verb values read → IsLineRead tree n waiting line text read
+row_read tree n waiting line text verb values read reported is h =
+    let said = subst (λ s. IsSaidRead tree n waiting line s read) (sym is) h in
+    subst (λ b. cond {A = Type 0} b (read ≡ Ok n) (IsSaidRead tree n waiting line (line_said (words_of text)) read)) (sym reported) said
+
+end_goes : (tree : List Node) (time line : ℕ) (notes next : Notes) (at : ℕ) → time ≤ latest_event → Ok next ≡ end_checked notes at → Ends tree time line (end_line time) notes next
+end_goes tree time line notes next at low e =
+    let given = end_given notes next at e in
+    record {
+      at = at;
+      next_is = given.1;
+      cut_is = row_read tree (cut_notes time notes) (length notes.pulses) line (end_line time) verbs.End (end_values time) (Ok (notes_ended time notes)) (end_line_reported time) (end_line_said time low) (sym (end_cut time notes low given.0));
+    }
 
 in_order : (notes next : Notes) → next.events ≡ notes.events → AreInOrder notes.events → AreInOrder next.events
 in_order notes next e order = subst (λ (es : List TimedEvent). AreInOrder es) (sym e) order
-
--- the words of a line that is no event
-other_goes : (tree : List Node) (time line : ℕ) (text verb : List ℕ) (words : List (List ℕ)) (notes next : Notes) → time ≤ latest_event → AreInOrder notes.events → is_skipped text ≡ false
-    → words_of text ≡ verb ∷ words → bytes_eq verb (codes "at") ≡ false → Ok next ≡ other_words notes (length notes.pulses) verb words
-    → Gone tree time line text (if bytes_eq verb (codes "end") then end_line time else text) notes next
-other_goes tree time line text verb words notes next low order reported split no_at e =
-    pulse (bytes_eq verb (codes "pulse")) refl e
-  where
-    kept : Ok (cut_notes time next) ≡ other_words (cut_notes time notes) (length notes.pulses) verb words → IsLineRead tree (cut_notes time notes) (length notes.pulses) line text (Ok (cut_notes time next))
-    kept r =
-        let worded : IsWordsRead tree (cut_notes time notes) (length notes.pulses) line (verb ∷ words) (Ok (cut_notes time next)) =
-        subst (λ b. cond {A = Type 0} b (IsEventRead tree (cut_notes time notes) line words (Ok (cut_notes time next))) (Ok (cut_notes time next) ≡ other_words (cut_notes time notes) (length notes.pulses) verb words)) (sym no_at) r in
-        reported_line tree (cut_notes time notes) line text (Ok (cut_notes time next)) reported (subst (λ ws. IsWordsRead tree (cut_notes time notes) (length notes.pulses) line ws (Ok (cut_notes time next))) (sym split) worded)
-
-    -- the verb of a pulse, a pull or the pin is not that of the end
-    no_end : (word : List ℕ) → bytes_eq word (codes "end") ≡ false → bytes_eq verb word ≡ true → bytes_eq verb (codes "end") ≡ false
-    no_end word differs p = ap (λ v. bytes_eq v (codes "end")) ((bytes_eq-Decides verb word).0 p) ∙ differs
-
-    more : Bool → Bool → Bool → Notes → Result Notes (AtWord ScriptCause)
-    more is_pulse is_pull is_pin n =
-        if is_pulse then pulse_words n (length notes.pulses) (length words) (two_of words)
-        else if is_pull then pull_words n (length notes.pulses) (length words) (two_of words)
-        else if is_pin then pin_words n (length notes.pulses) (length words) (two_of words)
-        else if bytes_eq verb (codes "end") then end_words n (length words) (one_of words)
-        else Err (at_word 0 Word)
-
-    -- a line that says nothing of events
-    kept_on : Stays time notes next (other_words (cut_notes time notes) (length notes.pulses) verb words) → bytes_eq verb (codes "end") ≡ false
-        → Gone tree time line text (if bytes_eq verb (codes "end") then end_line time else text) notes next
-    kept_on g other =
-        subst (λ b. Gone tree time line text (if b then end_line time else text) notes next) (sym other)
-        (inl (record { order = in_order notes next g.events order; same_end = g.same_end; cut_is = kept (sym g.cut_is) }))
-
-    -- of what it gives in the script that ends earlier
-    read_as : (read : Result Notes (AtWord ScriptCause)) → other_words (cut_notes time notes) (length notes.pulses) verb words ≡ read → Stays time notes next read
-        → Stays time notes next (other_words (cut_notes time notes) (length notes.pulses) verb words)
-    read_as read same g = subst (Stays time notes next) (sym same) g
-
-    end : (b : Bool) → bytes_eq verb (codes "end") ≡ b → Ok next ≡ (if b then end_words notes (length words) (one_of words) else Err (at_word 0 Word))
-        → Gone tree time line text (if b then end_line time else text) notes next
-    end false q e = cc
-    end true q e = inr (end_goes tree time line notes next (length words) (one_of words) low e)
-
-    pin : (b : Bool) → bytes_eq verb (codes "pulse") ≡ false → bytes_eq verb (codes "pull") ≡ false → bytes_eq verb (codes "pin") ≡ b → Ok next ≡ more false false b notes
-        → Gone tree time line text (if bytes_eq verb (codes "end") then end_line time else text) notes next
-    pin true p q r e =
-        let same = ap (λ b. more b (bytes_eq verb (codes "pull")) (bytes_eq verb (codes "pin")) (cut_notes time notes)) p
-        ∙ ap (λ b. more false b (bytes_eq verb (codes "pin")) (cut_notes time notes)) q ∙ ap (λ b. more false false b (cut_notes time notes)) r in
-        kept_on (read_as _ same (pin_goes time notes next (length words) (two_of words) e)) (no_end (codes "pin") refl r)
-    pin false p q r e = end (bytes_eq verb (codes "end")) refl e
-
-    pull : (b : Bool) → bytes_eq verb (codes "pulse") ≡ false → bytes_eq verb (codes "pull") ≡ b → Ok next ≡ more false b (bytes_eq verb (codes "pin")) notes
-        → Gone tree time line text (if bytes_eq verb (codes "end") then end_line time else text) notes next
-    pull true p q e =
-        let same = ap (λ b. more b (bytes_eq verb (codes "pull")) (bytes_eq verb (codes "pin")) (cut_notes time notes)) p
-        ∙ ap (λ b. more false b (bytes_eq verb (codes "pin")) (cut_notes time notes)) q in
-        kept_on (read_as _ same (pull_goes time notes next (length words) (two_of words) e).stays) (no_end (codes "pull") refl q)
-    pull false p q e = pin (bytes_eq verb (codes "pin")) p q refl e
-
-    pulse : (b : Bool) → bytes_eq verb (codes "pulse") ≡ b → Ok next ≡ more b (bytes_eq verb (codes "pull")) (bytes_eq verb (codes "pin")) notes
-        → Gone tree time line text (if bytes_eq verb (codes "end") then end_line time else text) notes next
-    pulse true p e =
-        let same = ap (λ b. more b (bytes_eq verb (codes "pull")) (bytes_eq verb (codes "pin")) (cut_notes time notes)) p in
-        kept_on (read_as _ same (pulse_goes time notes next (length words) (two_of words) e).stays) (no_end (codes "pulse") refl p)
-    pulse false p e = pull (bytes_eq verb (codes "pull")) p refl e
 
 -- the cut of a line that is not skipped, by its words
 abbrev cut_words : ℕ → List ℕ → List (List ℕ) → List ℕ
 cut_words time text words = if is_event words then (if is_before time words then text else []) else if has_verb (codes "end") words then end_line time else text
 
-words_go : (tree : List Node) (time line : ℕ) (text : List ℕ) (words : List (List ℕ)) (notes next : Notes) → time ≤ latest_event → AreInOrder notes.events → is_skipped text ≡ false → words_of text ≡ words
-    → IsWordsRead tree notes (length notes.pulses) line words (Ok next) → Gone tree time line text (cut_words time text words) notes next
-words_go tree time line text [] notes next low order reported split h = cc
-words_go tree time line text (verb ∷ words) notes next low order reported split h = by (bytes_eq verb (codes "at")) refl h
-  where
-    up : bytes_eq verb (codes "at") ≡ true → (n : Notes) (read : Result Notes (AtWord ScriptCause)) → IsEventRead tree n line words read → IsLineRead tree n (length n.pulses) line text read
-    up e n read r =
-        let worded : IsWordsRead tree n (length n.pulses) line (verb ∷ words) read = subst (λ b. cond {A = Type 0} b (IsEventRead tree n line words read) (read ≡ other_words n (length n.pulses) verb words)) (sym e) r in
-        reported_line tree n line text read reported (subst (λ ws. IsWordsRead tree n (length n.pulses) line ws read) (sym split) worded)
+-- a line of an event
+event_said : (tree : List Node) (time line : ℕ) (text : List ℕ) (verb : ScriptVerb) (values : List Meaning) (notes next : Notes) → first_of verb ≡ codes "at" → AreInOrder notes.events → is_skipped text ≡ false
+    → line_said (words_of text) ≡ Ok (verb, values) → Says tree line verb values notes (Ok next) → Gone tree time line text (cut_words time text (words_of text)) notes next
+event_said tree time line text verb values notes next at order reported is h =
+    let t = event_takes tree line verb values notes next at h in
+    let begin = lines_begin (words_of text) verb values t.at is t.time_is in
+    let words : words_of text ≡ codes "at" ∷ begin.0 ∷ begin.1 = begin.2 ∙ ap (λ v. v ∷ begin.0 ∷ begin.1) at in
+    let goes = event_goes tree time line t.at text t.event notes next order (taken notes line t.at t.event next t.now)
+    (λ n. row_read tree n (length n.pulses) line text verb values (notes_with_event n line t.at t.event) reported is (t.reads n)) in
+    let by_time = subst (λ o. Goes tree time line text (if is_sooner time o then text else []) notes next) (sym begin.3) goes in
+    inl (subst (λ ws. Goes tree time line text (cut_words time text ws) notes next) (sym words) by_time)
 
-    by : (b : Bool) → bytes_eq verb (codes "at") ≡ b → cond {A = Type 0} b (IsEventRead tree notes line words (Ok next)) (Ok next ≡ other_words notes (length notes.pulses) verb words)
-        → Gone tree time line text (if b then (if is_before time (verb ∷ words) then text else []) else if bytes_eq verb (codes "end") then end_line time else text) notes next
-    by true e h = inl (at_goes tree time line text words notes next order h (up e) verb)
-    by false e h = other_goes tree time line text verb words notes next low order reported split e h
+-- a line that is no event and not the end
+other_said : (tree : List Node) (time line : ℕ) (text : List ℕ) (verb : ScriptVerb) (values : List Meaning) (notes next : Notes) (cut : Result Notes (AtWord ScriptCause)) (word : List ℕ) (others : List (List ℕ))
+    → words_of text ≡ first_of verb ∷ word ∷ others → cut_words time text (first_of verb ∷ word ∷ others) ≡ text → AreInOrder notes.events → is_skipped text ≡ false → line_said (words_of text) ≡ Ok (verb, values)
+    → IsSaid tree (cut_notes time notes) (length notes.pulses) line verb values cut → Stays time notes next cut → Gone tree time line text (cut_words time text (words_of text)) notes next
+other_said tree time line text verb values notes next cut word others words same order reported is h g =
+    subst (λ c. Gone tree time line text c notes next) (sym (ap (cut_words time text) words ∙ same))
+    (inl (record {
+      order = in_order notes next g.events order;
+      same_end = g.same_end;
+      cut_is = row_read tree (cut_notes time notes) (length notes.pulses) line text verb values (Ok (cut_notes time next)) reported is (subst (λ r. IsSaid tree (cut_notes time notes) (length notes.pulses) line verb values r) g.cut_is h);
+    }))
+
+said_goes : (tree : List Node) (time line : ℕ) (text : List ℕ) (verb : ScriptVerb) (values : List Meaning) (notes next : Notes) → time ≤ latest_event → AreInOrder notes.events → is_skipped text ≡ false
+    → line_said (words_of text) ≡ Ok (verb, values) → Says tree line verb values notes (Ok next) → Gone tree time line text (cut_words time text (words_of text)) notes next
+said_goes tree time line text (verbs.Press word) values notes next low order reported is h = event_said tree time line text (verbs.Press word) values notes next refl order reported is h
+said_goes tree time line text (verbs.Release word) values notes next low order reported is h = event_said tree time line text (verbs.Release word) values notes next refl order reported is h
+said_goes tree time line text verbs.Plug values notes next low order reported is h = event_said tree time line text verbs.Plug values notes next refl order reported is h
+said_goes tree time line text verbs.Unplug values notes next low order reported is h = event_said tree time line text verbs.Unplug values notes next refl order reported is h
+said_goes tree time line text verbs.Send values notes next low order reported is h = event_said tree time line text verbs.Send values notes next refl order reported is h
+said_goes tree time line text verbs.Hold values notes next low order reported is h = event_said tree time line text verbs.Hold values notes next refl order reported is h
+said_goes tree time line text verbs.Drop values notes next low order reported is h = event_said tree time line text verbs.Drop values notes next refl order reported is h
+said_goes tree time line text verbs.Pulse values notes next low order reported is h =
+    let begin = lines_begin (words_of text) verbs.Pulse values (time_at values 1) is refl in
+    let pulse = pulse_of (time_at values 1) (number_at values 2) in
+    other_said tree time line text verbs.Pulse values notes next (notes_with_pulse (cut_notes time notes) (length notes.pulses) pulse) begin.0 begin.1 begin.2 refl order reported is refl
+    (pulse_goes time notes next pulse h).stays
+said_goes tree time line text verbs.Pull values notes next low order reported is h =
+    let begin = lines_begin (words_of text) verbs.Pull values (time_at values 1) is refl in
+    other_said tree time line text verbs.Pull values notes next (notes_with_pull (cut_notes time notes) (length notes.pulses) (time_at values 1) (number_at values 2)) begin.0 begin.1 begin.2 refl order reported is refl
+    (pull_goes time notes next (time_at values 1) (number_at values 2) h).stays
+said_goes tree time line text verbs.Pin values notes next low order reported is h =
+    let begin = lines_begin (words_of text) verbs.Pin values (time_at values 1) is refl in
+    other_said tree time line text verbs.Pin values notes next (notes_with_level (cut_notes time notes) (length notes.pulses) (time_at values 1) notes.pin (level_at values 2)) begin.0 begin.1 begin.2 refl order reported is refl
+    (level_goes time notes next (time_at values 1) notes.pin (level_at values 2) h)
+said_goes tree time line text verbs.End values notes next low order reported is h =
+    let begin = lines_begin (words_of text) verbs.End values (time_at values 1) is refl in
+    let Cut : List ℕ → Type 0 = λ c. Gone tree time line text c notes next in
+    subst Cut (sym (ap (cut_words time text) begin.2)) (inr (end_goes tree time line notes next (time_at values 1) low h))
 
 line_goes : (tree : List Node) (time line : ℕ) (text : List ℕ) (notes next : Notes) → time ≤ latest_event → AreInOrder notes.events → IsLineRead tree notes (length notes.pulses) line text (Ok next)
     → Gone tree time line text (cut_line time text) notes next
 line_goes tree time line text notes next low order h = by (is_skipped text) refl h
   where
-    by : (b : Bool) → is_skipped text ≡ b → cond {A = Type 0} b (AreSame next notes) (IsWordsRead tree notes (length notes.pulses) line (words_of text) (Ok next))
+    said : is_skipped text ≡ false → (s : Said ScriptVerb) → line_said (words_of text) ≡ s → IsSaidRead tree notes (length notes.pulses) line s (Ok next) → Gone tree time line text (cut_words time text (words_of text)) notes next
+    said reported (Err fault) is h = cc
+    said reported (Ok (verb, values)) is h = said_goes tree time line text verb values notes next low order reported is h
+
+    by : (b : Bool) → is_skipped text ≡ b → cond {A = Type 0} b (AreSame next notes) (IsSaidRead tree notes (length notes.pulses) line (line_said (words_of text)) (Ok next))
         → Gone tree time line text (if b then text else cut_words time text (words_of text)) notes next
     by true e h =
         let same = ok_same next notes h in
         inl (record {
           order = subst (λ (n : Notes). AreInOrder n.events) (sym same) order;
           same_end = ap (λ (n : Notes). n.end) same;
-          cut_is = subst (λ b. cond {A = Type 0} b (AreSame (cut_notes time next) (cut_notes time notes)) (IsWordsRead tree (cut_notes time notes) (length notes.pulses) line (words_of text) (Ok (cut_notes time next)))) (sym e) (ap (λ (n : Notes). Ok (cut_notes time n)) same);
+          cut_is = subst (λ b. cond {A = Type 0} b (AreSame (cut_notes time next) (cut_notes time notes)) (IsSaidRead tree (cut_notes time notes) (length notes.pulses) line (line_said (words_of text)) (Ok (cut_notes time next)))) (sym e) (ap (λ (n : Notes). Ok (cut_notes time n)) same);
         })
-    by false e h = words_go tree time line text (words_of text) notes next low order e refl h
+    by false e h = said e (line_said (words_of text)) refl h
 
 -- ---- after the end
 
+both_ways : (b : Bool) → b ≡ true → b ≡ false → ⊥
+both_ways true p q = cc
+both_ways false p q = cc
+
+event_over : (tree : List Node) (line : ℕ) (verb : ScriptVerb) (values : List Meaning) (notes next : Notes) → first_of verb ≡ codes "at" → is_some notes.end ≡ true → Says tree line verb values notes (Ok next) → ⊥
+event_over tree line verb values notes next at over h =
+    let t = event_takes tree line verb values notes next at h in
+    both_ways (is_some notes.end) over (taken notes line t.at t.event next t.now).open_end
+
 -- a line that is taken there is skipped
-words_over : (tree : List Node) (line : ℕ) (words : List (List ℕ)) (notes next : Notes) → is_some notes.end ≡ true → notes.pin ≡ None → IsWordsRead tree notes (length notes.pulses) line words (Ok next) → ⊥
-words_over tree line [] notes next over high h = cc
-words_over tree line (verb ∷ words) notes next over high h = by (bytes_eq verb (codes "at")) h
-  where
-    both : (b : Bool) → b ≡ true → b ≡ false → ⊥
-    both true p q = cc
-    both false p q = cc
+said_over : (tree : List Node) (line : ℕ) (verb : ScriptVerb) (values : List Meaning) (notes next : Notes) → is_some notes.end ≡ true → notes.pin ≡ None → Says tree line verb values notes (Ok next) → ⊥
+said_over tree line (verbs.Press word) values notes next over high h = event_over tree line (verbs.Press word) values notes next refl over h
+said_over tree line (verbs.Release word) values notes next over high h = event_over tree line (verbs.Release word) values notes next refl over h
+said_over tree line verbs.Plug values notes next over high h = event_over tree line verbs.Plug values notes next refl over h
+said_over tree line verbs.Unplug values notes next over high h = event_over tree line verbs.Unplug values notes next refl over h
+said_over tree line verbs.Send values notes next over high h = event_over tree line verbs.Send values notes next refl over h
+said_over tree line verbs.Hold values notes next over high h = event_over tree line verbs.Hold values notes next refl over h
+said_over tree line verbs.Drop values notes next over high h = event_over tree line verbs.Drop values notes next refl over h
+said_over tree line verbs.Pulse values notes next over high h = both_ways (is_some notes.end) over (pulse_goes 0 notes next (pulse_of (time_at values 1) (number_at values 2)) h).open_end
+said_over tree line verbs.Pull values notes next over high h = both_ways (is_some notes.end) over (pull_goes 0 notes next (time_at values 1) (number_at values 2) h).open_end
+said_over tree line verbs.Pin values notes next over high h = both_ways (is_some notes.end) over (pin_opens notes next (time_at values 1) (level_at values 2) high h)
+said_over tree line verbs.End values notes next over high h = both_ways (is_some notes.end) over (end_given notes next (time_at values 1) h).0
 
-    clash : is_some notes.end ≡ false → ⊥
-    clash above = both (is_some notes.end) over above
-
-    event : (words : List (List ℕ)) → IsEventRead tree notes line words (Ok next) → ⊥
-    event [] h = cc
-    event (time ∷ []) h = cc
-    event (time ∷ kind ∷ words) h = let t = event_takes tree line time kind words notes next h in clash (taken notes line t.at t.event next t.now).open_end
-
-    end : (b : Bool) → Ok next ≡ (if b then end_words notes (length words) (one_of words) else Err (at_word 0 Word)) → ⊥
-    end true e = clash (end_given notes next (length words) (one_of words) e).1
-    end false e = cc
-
-    pin : (b : Bool) → Ok next ≡ (if b then pin_words notes (length notes.pulses) (length words) (two_of words) else if bytes_eq verb (codes "end") then end_words notes (length words) (one_of words) else Err (at_word 0 Word)) → ⊥
-    pin true e = clash (pin_opens notes next (length words) (two_of words) high e)
-    pin false e = end (bytes_eq verb (codes "end")) e
-
-    pull : (b : Bool) → Ok next ≡ (if b then pull_words notes (length notes.pulses) (length words) (two_of words) else if bytes_eq verb (codes "pin") then pin_words notes (length notes.pulses) (length words) (two_of words)
-        else if bytes_eq verb (codes "end") then end_words notes (length words) (one_of words) else Err (at_word 0 Word)) → ⊥
-    pull true e = clash (pull_goes 0 notes next (length words) (two_of words) e).open_end
-    pull false e = pin (bytes_eq verb (codes "pin")) e
-
-    other : (b : Bool) → Ok next ≡ (if b then pulse_words notes (length notes.pulses) (length words) (two_of words) else if bytes_eq verb (codes "pull") then pull_words notes (length notes.pulses) (length words) (two_of words)
-        else if bytes_eq verb (codes "pin") then pin_words notes (length notes.pulses) (length words) (two_of words) else if bytes_eq verb (codes "end") then end_words notes (length words) (one_of words) else Err (at_word 0 Word)) → ⊥
-    other true e = clash (pulse_goes 0 notes next (length words) (two_of words) e).open_end
-    other false e = pull (bytes_eq verb (codes "pull")) e
-
-    by : (b : Bool) → cond {A = Type 0} b (IsEventRead tree notes line words (Ok next)) (Ok next ≡ other_words notes (length notes.pulses) verb words) → ⊥
-    by true h = event words h
-    by false h = other (bytes_eq verb (codes "pulse")) h
+words_over : (tree : List Node) (line : ℕ) (notes next : Notes) (said : Said ScriptVerb) → is_some notes.end ≡ true → notes.pin ≡ None → IsSaidRead tree notes (length notes.pulses) line said (Ok next) → ⊥
+words_over tree line notes next (Err fault) over high h = cc
+words_over tree line notes next (Ok said) over high h = said_over tree line said.0 said.1 notes next over high h
 
 -- what lines after the end give, and those of the script that ends earlier
 record Over (tree : List Node) (time line : ℕ) (texts : List (List ℕ)) (notes cut : Notes) (course : Course) (t : ℕ) : Type 0 where
@@ -243,9 +230,9 @@ lines_over tree time [] line notes cut course t end high cut_end h =
     same_course a b e = cc
 lines_over tree time (text ∷ texts) line notes cut course t end high cut_end h = step h.0 h.1 h.2 (λ next e p k. lines_over tree time texts (line + 1) next cut course t e p cut_end k)
   where
-    skipped : (next : Notes) (b : Bool) → is_skipped text ≡ b → cond {A = Type 0} b (AreSame next notes) (IsWordsRead tree notes (length notes.pulses) line (words_of text) (Ok next)) → (b ≡ true) × (next ≡ notes)
+    skipped : (next : Notes) (b : Bool) → is_skipped text ≡ b → cond {A = Type 0} b (AreSame next notes) (IsSaidRead tree notes (length notes.pulses) line (line_said (words_of text)) (Ok next)) → (b ≡ true) × (next ≡ notes)
     skipped next true e k = (refl, ok_same next notes k)
-    skipped next false e k = absurd (words_over tree line (words_of text) notes next (ap is_some end) high k)
+    skipped next false e k = absurd (words_over tree line notes next (line_said (words_of text)) (ap is_some end) high k)
 
     step : (now : Result Notes (AtWord ScriptCause)) → IsLineRead tree notes (length notes.pulses) line text now → Onward line now (λ next. AreLinesRead tree texts (line + 1) next (Ok course)) (Ok course)
         → ((next : Notes) → next.end ≡ Some t → next.pin ≡ None → AreLinesRead tree texts (line + 1) next (Ok course) → Over tree time (line + 1) texts next cut course t)
@@ -258,7 +245,7 @@ lines_over tree time (text ∷ texts) line notes cut course t end high cut_end h
           course_is = rest.course_is ∙ ap (λ (n : Notes). let c : Course = record { events = n.events; pulses = n.pulses; end = t } in c) is.1;
           cut_is = (
             Ok cut,
-            subst (λ b. cond {A = Type 0} b (AreSame cut cut) (IsWordsRead tree cut (length cut.pulses) line (words_of (cut_line time text)) (Ok cut))) (sym (still is.0)) refl,
+            subst (λ b. cond {A = Type 0} b (AreSame cut cut) (IsSaidRead tree cut (length cut.pulses) line (line_said (words_of (cut_line time text))) (Ok cut))) (sym (still is.0)) refl,
             rest.cut_is,
           );
         }

@@ -6,6 +6,7 @@ use Rattle.std.proofs.lemmas.Bool.{false≢true}
 use Rattle.std.proofs.lemmas.Bool.Decides.{nat_tests}
 use Rattle.std.proofs.lemmas.Grind.{common_steps}
 use Rattle.std.proofs.lemmas.Slice.Eq.{bytes_eq-Decides}
+use Rattle.record_core.specs.declared.cell.Form.{Form}
 use Rattle.text_core.specs.Lines.{lines_of}
 use Rattle.text_core.specs.Number.{number_of}
 use Rattle.text_core.specs.Words.{words_of}
@@ -323,7 +324,7 @@ met_by number state j None e more h = (ap (λ o. has_failed o && is_some j.span 
 met_by number state j (Some holds) e more h =
     (left_of (is_unmet j) (list_any (λ (f : JudgedLine). is_unmet f.judged) more) h, right_of (is_unmet j) (list_any (λ (f : JudgedLine). is_unmet f.judged) more) h)
 
-module _ (script : List ℕ) (told : Told) (timed : are_timed script told.events ≡ true) where
+module _ (form : Form) (script : List ℕ) (told : Told) (timed : are_timed script told.events ≡ true) where
   same_event : (number : ℕ) → is_named script number ≡ true → event_at (kept script told).events number ≡ event_at told.events number
   same_event number named = kept_event script number named told.events
 
@@ -397,98 +398,100 @@ module _ (script : List ℕ) (told : Told) (timed : are_timed script told.events
   shown_same : (span : TimeSpan) (pattern : List ℕ) → SpanCovered (watches_of script) pattern (Some span) → shown_text (kept script told).rounds span pattern ≡ shown_text told.rounds span pattern
   shown_same span pattern covers = ap (λ (rs : List RoundLine). flat_map shown_round (take 8 rs)) (same_rounds span pattern covers)
 
-  seen_same : (pattern : List ℕ) (count : ℕ) (span : TimeSpan) → SpanCovered (watches_of script) pattern (Some span) → (count == 0) ≡ false → span_remarks (kept script told).rounds pattern count (Some span) ≡ span_remarks told.rounds pattern count (Some span)
+  seen_same : (pattern : List ℕ) (count : ℕ) (span : TimeSpan) → SpanCovered (watches_of script) pattern (Some span) → (count == 0) ≡ false → span_remarks form (kept script told).rounds pattern count (Some span) ≡ span_remarks form told.rounds pattern count (Some span)
   seen_same pattern count span covers h =
-      ap (λ t. seen_line count span ++ t)
+      ap (λ t. seen_line form count span ++ t)
       (ap (λ b. shown_text (kept script told).rounds span (if b then codes "*" else pattern)) h ∙ shown_same span pattern covers ∙ sym (ap (λ b. shown_text told.rounds span (if b then codes "*" else pattern)) h))
 
   span_same : (quantity : Quantity) (pattern : List ℕ) (o : Option TimeSpan) → SpanCovered (watches_of script) pattern o
       → (is_some (rounds_judged told.rounds quantity pattern o).span && ((rounds_judged told.rounds quantity pattern o).count == 0)) ≡ false
-      → span_remarks (kept script told).rounds pattern (rounds_judged told.rounds quantity pattern o).count (rounds_judged told.rounds quantity pattern o).span
-      ≡ span_remarks told.rounds pattern (rounds_judged told.rounds quantity pattern o).count (rounds_judged told.rounds quantity pattern o).span
+      → span_remarks form (kept script told).rounds pattern (rounds_judged told.rounds quantity pattern o).count (rounds_judged told.rounds quantity pattern o).span
+      ≡ span_remarks form told.rounds pattern (rounds_judged told.rounds quantity pattern o).count (rounds_judged told.rounds quantity pattern o).span
   span_same quantity pattern None covers h = refl
   span_same quantity pattern (Some span) covers h = seen_same pattern (length (ends_seen told.rounds span pattern)) span covers h
 
-  remarks_same : (state : List ℕ) (at : ℕ → Option ℕ) → AreNear script at → (number : ℕ) (named : Bool) (onset : Option ℕ) (f : Result ExpectLine (AtWord ExpectCause)) → FormCovered script number f
+  remarks_same : (state below : List ℕ) (at : ℕ → Option ℕ) → AreNear script at → (number : ℕ) (named : Bool) (onset : Option ℕ) (f : Result ExpectLine (AtWord ExpectCause)) → FormCovered script number f
       → (is_some (form_judged script told state at number named onset f).span && ((form_judged script told state at number named onset f).count == 0)) ≡ false
-      → form_remarks (kept script told).rounds state (form_judged script told state at number named onset f) f ≡ form_remarks told.rounds state (form_judged script told state at number named onset f) f
-  remarks_same state at near number named onset (Err cause) c h = refl
-  remarks_same state at near number named onset (Ok Other) c h = refl
-  remarks_same state at near number named onset (Ok (Rounds quantity window pattern)) c h =
+      → form_remarks form (kept script told).rounds below (form_judged script told state at number named onset f) f ≡ form_remarks form told.rounds below (form_judged script told state at number named onset f) f
+  remarks_same state below at near number named onset (Err cause) c h = refl
+  remarks_same state below at near number named onset (Ok Other) c h = refl
+  remarks_same state below at near number named onset (Ok (Rounds quantity window pattern)) c h =
       span_same quantity pattern (span_of script at window) (window_covered script at near window pattern c.0) h
-  remarks_same state at near number named onset (Ok (State time device words)) c h = refl
-  remarks_same state at near number named onset (Ok (Unremarked pattern)) c h = refl
-  remarks_same state at near number named onset (Ok (Refused name word)) c h = refl
+  remarks_same state below at near number named onset (Ok (State time device words)) c h = refl
+  remarks_same state below at near number named onset (Ok (Unremarked pattern)) c h = refl
+  remarks_same state below at near number named onset (Ok (Refused name word)) c h = refl
 
-  line_same : (state : List ℕ) (r : Report) (at : ℕ → Option ℕ) (number : ℕ) (line : List ℕ) → AreNear script at → FormCovered script number (form_in (unlabelled_words (words_of line)))
+  line_same : (state below : List ℕ) (r : Report) (at : ℕ → Option ℕ) (number : ℕ) (line : List ℕ) → AreNear script at → FormCovered script number (form_in (unlabelled_words (words_of line)))
       → is_unmet (line_judged script told state at number line) ≡ false
-      → with_line (kept script told).rounds state r number line (line_judged script told state at number line) ≡ with_line told.rounds state r number line (line_judged script told state at number line)
-  line_same state r at number line near c h = by j.holds h
+      → with_line form (kept script told).rounds below r number line (line_judged script told state at number line) ≡ with_line form told.rounds below r number line (line_judged script told state at number line)
+  line_same state below r at number line near c h = by j.holds h
     where
       j : Judged
       j = line_judged script told state at number line
 
-      by : (o : Option Bool) → (has_failed o && is_some j.span && (j.count == 0)) ≡ false → with_found (kept script told).rounds state r number line j o ≡ with_found told.rounds state r number line j o
+      by : (o : Option Bool) → (has_failed o && is_some j.span && (j.count == 0)) ≡ false → with_found form (kept script told).rounds below r number line j o ≡ with_found form told.rounds below r number line j o
       by None k = refl
       by (Some true) k = refl
       by (Some false) k =
-          ap (with_remarks (with_test r false number [] line) false) (remarks_same state at near number (is_labelled line) (onset_in (unlabelled_words (words_of line))) (form_in (unlabelled_words (words_of line))) c k)
+          ap (with_remarks (with_test form r false number line) false) (remarks_same state below at near number (is_labelled line) (onset_in (unlabelled_words (words_of line))) (form_in (unlabelled_words (words_of line))) c k)
 
-  tests_same : (r : Report) (at : ℕ → Option ℕ) (number : ℕ) (lines states : List (List ℕ)) → AreNear script at → AreCovered script number lines
-      → list_any (λ f. is_unmet f.judged) (findings_from number states (lines_judged script told at number lines states)) ≡ false
-      → with_lines (kept script told).rounds r number lines states (lines_judged script told at number lines states) ≡ with_lines told.rounds r number lines states (lines_judged script told at number lines states)
-  tests_same r at number [] states near c h = refl
-  tests_same r at number (line ∷ lines) [] near c h = refl
-  tests_same r at number (line ∷ lines) (state ∷ states) near c h =
+  tests_same : (r : Report) (at : ℕ → Option ℕ) (number : ℕ) (lines states texts : List (List ℕ)) → AreNear script at → AreCovered script number lines
+      → list_any (λ f. is_unmet f.judged) (findings_from number texts (lines_judged script told at number lines states)) ≡ false
+      → with_lines form (kept script told).rounds r number lines texts (lines_judged script told at number lines states) ≡ with_lines form told.rounds r number lines texts (lines_judged script told at number lines states)
+  tests_same r at number [] states texts near c h = refl
+  tests_same r at number (line ∷ lines) [] [] near c h = refl
+  tests_same r at number (line ∷ lines) [] (below ∷ texts) near c h = refl
+  tests_same r at number (line ∷ lines) (state ∷ states) [] near c h = refl
+  tests_same r at number (line ∷ lines) (state ∷ states) (below ∷ texts) near c h =
       let j : Judged = line_judged script told state at number line in
       let js : List Judged = lines_judged script told (noted at number j.at) (number + 1) lines states in
-      let met = met_by number state j j.holds refl (findings_from (number + 1) states js) h in
-      ap (λ (q : Report). with_lines (kept script told).rounds q (number + 1) lines states js) (line_same state r at number line near c.0 met.0)
-      ∙ tests_same (with_line told.rounds state r number line j) (noted at number j.at) (number + 1) lines states (next_near state at number line near c.0 c.2) c.3 met.1
+      let met = met_by number below j j.holds refl (findings_from (number + 1) texts js) h in
+      ap (λ (q : Report). with_lines form (kept script told).rounds q (number + 1) lines texts js) (line_same state below r at number line near c.0 met.0)
+      ∙ tests_same (with_line form told.rounds below r number line j) (noted at number j.at) (number + 1) lines states texts (next_near state at number line near c.0 c.2) c.3 met.1
 
 -- ---- refused events
 
-no_refusal : (script : List ℕ) (r : Report) (e : EventLine) → is_event_kept script e ≡ false → with_event script r e ≡ r
-no_refusal script r e h = ap (with_word script r e.line) (nothing_there e.refused (right_of (is_named script e.line) (is_some e.refused) h))
+no_refusal : (form : Form) (script : List ℕ) (r : Report) (e : EventLine) → is_event_kept script e ≡ false → with_event form script r e ≡ r
+no_refusal form script r e h = ap (with_word form script r e.line) (nothing_there e.refused (right_of (is_named script e.line) (is_some e.refused) h))
 
-events_same : (script : List ℕ) (r : Report) (events : List EventLine) → with_refusals script r (filter (is_event_kept script) events) ≡ with_refusals script r events
-events_same script r [] = refl
-events_same script r (e ∷ events) = by (is_event_kept script e) refl (events_same script (with_event script r e) events) (events_same script r events)
+events_same : (form : Form) (script : List ℕ) (r : Report) (events : List EventLine) → with_refusals form script r (filter (is_event_kept script) events) ≡ with_refusals form script r events
+events_same form script r [] = refl
+events_same form script r (e ∷ events) = by (is_event_kept script e) refl (events_same form script (with_event form script r e) events) (events_same form script r events)
   where
     by : (b : Bool) → is_event_kept script e ≡ b
-        → with_refusals script (with_event script r e) (filter (is_event_kept script) events) ≡ with_refusals script (with_event script r e) events
-        → with_refusals script r (filter (is_event_kept script) events) ≡ with_refusals script r events
-        → with_refusals script r (cond b (e ∷ filter (is_event_kept script) events) (filter (is_event_kept script) events)) ≡ with_refusals script (with_event script r e) events
+        → with_refusals form script (with_event form script r e) (filter (is_event_kept script) events) ≡ with_refusals form script (with_event form script r e) events
+        → with_refusals form script r (filter (is_event_kept script) events) ≡ with_refusals form script r events
+        → with_refusals form script r (cond b (e ∷ filter (is_event_kept script) events) (filter (is_event_kept script) events)) ≡ with_refusals form script (with_event form script r e) events
     by true k more rest = more
-    by false k more rest = rest ∙ sym (ap (λ (q : Report). with_refusals script q events) (no_refusal script r e k))
+    by false k more rest = rest ∙ sym (ap (λ (q : Report). with_refusals form script q events) (no_refusal form script r e k))
 
 -- ---- all
 
 no_instant : (script : List ℕ) → AreNear script (λ line. None)
 no_instant script number instant time h k = cc
 
-enough : (script : List ℕ) (told : Told) (states : List (List ℕ)) (found : List JudgedLine) (r : Report) → found ≡ findings_of script (kept script told) states
-    → list_any (λ f. is_unmet f.judged) found ≡ false → r ≡ report_by script (kept script told) found → are_timed script told.events ≡ true → r ≡ report script told states
-enough script told states found r is h made timed =
+enough : (form : Form) (script : List ℕ) (told : Told) (states texts : List (List ℕ)) (found : List JudgedLine) (r : Report) → found ≡ findings_of script (kept script told) states texts
+    → list_any (λ f. is_unmet f.judged) found ≡ false → r ≡ report_by form script (kept script told) found → are_timed script told.events ≡ true → r ≡ report form script told states texts
+enough form script told states texts found r is h made timed =
     let all = lines_of script in
     let few = kept script told in
     let near = no_instant script in
     let c = covered script 1 all (λ r k. k) (λ other k. k) (λ other k. refl) in
-    let js : verdicts_of script few states ≡ verdicts_of script told states = lines_same script told timed (λ line. None) 1 all states near c in
-    let met : list_any (λ f. is_unmet f.judged) (findings_of script told states) ≡ false =
-    ap (λ (vs : List Judged). list_any (λ (f : JudgedLine). is_unmet f.judged) (findings_from 1 states vs)) (sym js) ∙ ap (list_any (λ (f : JudgedLine). is_unmet f.judged)) (sym is) ∙ h in
-    let tests : with_lines few.rounds report_start 1 all states (verdicts_of script few states) ≡ with_lines told.rounds report_start 1 all states (verdicts_of script told states) =
-    ap (with_lines few.rounds report_start 1 all states) js ∙ tests_same script told timed report_start (λ line. None) 1 all states near c met in
-    made ∙ ap (report_by script few) is ∙ report_again script few states (verdicts_of script few states)
-    ∙ ap report_with_plan (events_same script (with_lines few.rounds report_start 1 all states (verdicts_of script few states)) told.events)
-    ∙ ap (λ (r : Report). report_with_plan (with_refusals script r told.events)) tests
+    let js : verdicts_of script few states ≡ verdicts_of script told states = lines_same form script told timed (λ line. None) 1 all states near c in
+    let met : list_any (λ f. is_unmet f.judged) (findings_of script told states texts) ≡ false =
+    ap (λ (vs : List Judged). list_any (λ (f : JudgedLine). is_unmet f.judged) (findings_from 1 texts vs)) (sym js) ∙ ap (list_any (λ (f : JudgedLine). is_unmet f.judged)) (sym is) ∙ h in
+    let tests : with_lines form few.rounds (report_start form) 1 all texts (verdicts_of script few states) ≡ with_lines form told.rounds (report_start form) 1 all texts (verdicts_of script told states) =
+    ap (with_lines form few.rounds (report_start form) 1 all texts) js ∙ tests_same form script told timed (report_start form) (λ line. None) 1 all states texts near c met in
+    made ∙ ap (report_by form script few) is ∙ report_again form script few texts (verdicts_of script few states)
+    ∙ ap (report_with_plan form) (events_same form script (with_lines form few.rounds (report_start form) 1 all texts (verdicts_of script few states)) told.events)
+    ∙ ap (λ (r : Report). report_with_plan form (with_refusals form script r told.events)) tests
 
 -- what is found is lent twice
-pub kept_is_enough : (script : List ℕ) (few told : Told) (states : List (List ℕ)) (found looked lent : List FindingRead) (r : Report) → few ≡ kept script told
-    → map finding_as found ≡ findings_of script few (states_for (lines_of script) states) → looked ≡ found → list_any (λ f. is_unmet f.judged) (map finding_as looked) ≡ false
-    → lent ≡ found → r ≡ report_by script few (map finding_as lent) → are_timed script told.events ≡ true → r ≡ report script told (states_for (lines_of script) states)
-kept_is_enough script few told states found looked lent r same is first h second made timed =
-    enough script told (states_for (lines_of script) states) (map finding_as found) r
-    (is ∙ ap (λ (t : Told). findings_of script t (states_for (lines_of script) states)) same)
+pub kept_is_enough : (form : Form) (script : List ℕ) (few told : Told) (states texts : List (List ℕ)) (found looked lent : List FindingRead) (r : Report) → few ≡ kept script told
+    → map finding_as found ≡ findings_of script few (states_for (lines_of script) states) (states_for (lines_of script) texts) → looked ≡ found → list_any (λ f. is_unmet f.judged) (map finding_as looked) ≡ false
+    → lent ≡ found → r ≡ report_by form script few (map finding_as lent) → are_timed script told.events ≡ true → r ≡ report form script told (states_for (lines_of script) states) (states_for (lines_of script) texts)
+kept_is_enough form script few told states texts found looked lent r same is first h second made timed =
+    enough form script told (states_for (lines_of script) states) (states_for (lines_of script) texts) (map finding_as found) r
+    (is ∙ ap (λ (t : Told). findings_of script t (states_for (lines_of script) states) (states_for (lines_of script) texts)) same)
     (ap (λ (fs : List FindingRead). list_any (λ (f : JudgedLine). is_unmet f.judged) (map finding_as fs)) (sym first) ∙ h)
-    (made ∙ ap (λ (t : Told). report_by script t (map finding_as lent)) same ∙ ap (λ (fs : List FindingRead). report_by script (kept script told) (map finding_as fs)) second) timed
+    (made ∙ ap (λ (t : Told). report_by form script t (map finding_as lent)) same ∙ ap (λ (fs : List FindingRead). report_by form script (kept script told) (map finding_as fs)) second) timed

@@ -1,10 +1,11 @@
 //! From the texts of a topology and a script with expectations to their report.
-ghost use Rattle.std.specs.Prelude.{◌≡◌, ◌↔◌, not, false, length, filter, map, None, IfOk, IfErr, IfSome, IsTrue, OnOk};
+ghost use Rattle.std.specs.Prelude.{◌≡◌, ◌↔◌, not, false, length, filter, None, IfOk, IfErr, IfSome, IsTrue, OnOk};
 ghost use Rattle.text_core.specs.Lines.{lines_of};
 ghost use Rattle.expect_text.specs.Line.{plain_script};
 ghost use Rattle.expect_text.specs.Faults.{first_fault};
 ghost use Rattle.expect_judge.specs.Judged.{states_for};
-ghost use Rattle.expect_run.specs.States.{AreStates, IsTraced};
+ghost use Rattle.expect_run.specs.States.{AreStates, IsTraced, said_in, shown_in};
+ghost use Rattle.expect_run.specs.States.StateView.{Below, Said};
 ghost use Rattle.expect_run.specs.Check.{AreVerdictsOf, IsCheckCut, IsCheckReported, IsChecked, IsHeardSo, IsReportOf, IsVerdictReported, is_write, tally_of};
 ghost use Rattle.expect_run.specs.Report.{report_as};
 ghost use Rattle.expect_run.specs.Sifted.{told_kept};
@@ -13,9 +14,10 @@ use crate::needs::Needs;
 use crate::plain::PlainScriptLines;
 use crate::report::{ReportDraft, report_of_few, report_of_told};
 use crate::run::run_told;
-use crate::states::all_states;
+use crate::states::{StateTexts, all_states};
 use crate::told::{KeptTold, RunTold};
 use expect_text::{ExpectCause, Labels, fault_among, has_names};
+use record_core::Form;
 use room_run::emulate::EmulateError;
 use std::alloc::Global;
 use text_core::{At, Sink, put_all};
@@ -75,18 +77,19 @@ pub fn tally_of(verdicts: &[bool]) -> Tally
 // script has it.
 fn hear_run(
     alloc: Global,
+    form: Form,
     topology: &[u8],
     script: &[u8],
     all: bool,
 ) -> Result<Option<KeptTold>, CheckError>
     ensures traced { OnOk result (IsTraced topology.now (plain_script script.now)) }
-    ensures kept { IfOk result (λ told. IfSome told (λ told. IsHeardSo all topology.now script.now (told_kept told))) }
+    ensures kept { IfOk result (λ told. IfSome told (λ told. IsHeardSo form all topology.now script.now (told_kept told))) }
     ensures reported { IfErr result (IsVerdictReported topology.now script.now) }
 {
     let Ok(needs) = Needs::new(alloc, script) else {
         return Err(CheckError::Memory);
     };
-    let mut told = RunTold::new(alloc, needs, all, has_names(script));
+    let mut told = RunTold::new(alloc, needs, all, has_names(script), form);
     match run_told(alloc, topology, &PlainScriptLines { script }, &mut told) {
         Ok(_) => {}
         Err(error) => return Err(CheckError::Emulate(error)),
@@ -105,18 +108,20 @@ fn hear_run(
 #[tactic(auto, using(crate::proofs::Checked::reported))]
 fn report_by_all(
     alloc: Global,
+    form: Form,
     topology: &[u8],
     labels: &Labels<'_>,
-    states: &[Vec<u8>],
+    states: &StateTexts,
 ) -> Result<ReportDraft, CheckError>
     requires accepted { first_fault topology.now labels.now.script.now ≡ None }
-    requires states { AreStates topology.now (plain_script labels.now.script.now) (lines_of labels.now.script.now) (states_for (lines_of labels.now.script.now) (map (λ state. state.items) states.now)) }
-    ensures ok { IfOk result (λ draft. IsReportOf topology.now labels.now.script.now (report_as draft)) }
+    requires said { AreStates Said topology.now (plain_script labels.now.script.now) (lines_of labels.now.script.now) (states_for (lines_of labels.now.script.now) (said_in states.now)) }
+    requires shown { AreStates (Below form) topology.now (plain_script labels.now.script.now) (lines_of labels.now.script.now) (states_for (lines_of labels.now.script.now) (shown_in states.now)) }
+    ensures ok { IfOk result (λ draft. IsReportOf form topology.now labels.now.script.now (report_as draft)) }
     ensures reported { IfErr result (IsVerdictReported topology.now labels.now.script.now) }
 {
-    match hear_run(alloc, topology, labels.script, true)? {
+    match hear_run(alloc, form, topology, labels.script, true)? {
         None => Err(CheckError::Memory),
-        Some(told) => match report_of_told(alloc, labels, &told, states) {
+        Some(told) => match report_of_told(alloc, form, labels, &told, states) {
             Ok(report) => Ok(report),
             Err(_) => Err(CheckError::Memory),
         },
@@ -128,36 +133,43 @@ fn report_by_all(
 #[tactic(auto, using(crate::proofs::Checked::reported_few))]
 fn report_by_few(
     alloc: Global,
+    form: Form,
     topology: &[u8],
     labels: &Labels<'_>,
     few: Option<KeptTold>,
-    states: &[Vec<u8>],
+    states: &StateTexts,
 ) -> Result<ReportDraft, CheckError>
-    requires kept { IfSome few (λ few. IsHeardSo false topology.now labels.now.script.now (told_kept few)) }
+    requires kept { IfSome few (λ few. IsHeardSo form false topology.now labels.now.script.now (told_kept few)) }
     requires accepted { first_fault topology.now labels.now.script.now ≡ None }
-    requires states { AreStates topology.now (plain_script labels.now.script.now) (lines_of labels.now.script.now) (states_for (lines_of labels.now.script.now) (map (λ state. state.items) states.now)) }
-    ensures ok { IfOk result (λ draft. IsReportOf topology.now labels.now.script.now (report_as draft)) }
+    requires said { AreStates Said topology.now (plain_script labels.now.script.now) (lines_of labels.now.script.now) (states_for (lines_of labels.now.script.now) (said_in states.now)) }
+    requires shown { AreStates (Below form) topology.now (plain_script labels.now.script.now) (lines_of labels.now.script.now) (states_for (lines_of labels.now.script.now) (shown_in states.now)) }
+    ensures ok { IfOk result (λ draft. IsReportOf form topology.now labels.now.script.now (report_as draft)) }
     ensures reported { IfErr result (IsVerdictReported topology.now labels.now.script.now) }
 {
     let Some(few) = few else {
-        return report_by_all(alloc, topology, labels, states);
+        return report_by_all(alloc, form, topology, labels, states);
     };
-    let Ok(report) = report_of_few(alloc, labels, &few, states) else {
+    let Ok(report) = report_of_few(alloc, form, labels, &few, states) else {
         return Err(CheckError::Memory);
     };
     match report {
         Some(report) => Ok(report),
-        None => report_by_all(alloc, topology, labels, states),
+        None => report_by_all(alloc, form, topology, labels, states),
     }
 }
 
 // The report of a script.
 #[tactic(auto, using(crate::proofs::Checked::faulty, crate::proofs::Checked::faultless))]
-fn report_of(alloc: Global, topology: &[u8], script: &[u8]) -> Result<ReportDraft, CheckError>
-    ensures ok { IfOk result (λ draft. IsReportOf topology.now script.now (report_as draft)) }
+fn report_of(
+    alloc: Global,
+    form: Form,
+    topology: &[u8],
+    script: &[u8],
+) -> Result<ReportDraft, CheckError>
+    ensures ok { IfOk result (λ draft. IsReportOf form topology.now script.now (report_as draft)) }
     ensures reported { IfErr result (IsVerdictReported topology.now script.now) }
 {
-    let few = match hear_run(alloc, topology, script, false) {
+    let few = match hear_run(alloc, form, topology, script, false) {
         Ok(few) => few,
         Err(error) => return Err(error),
     };
@@ -168,15 +180,15 @@ fn report_of(alloc: Global, topology: &[u8], script: &[u8]) -> Result<ReportDraf
         Some(fault) => return Err(CheckError::Expect(fault)),
         None => {}
     }
-    let Ok(states) = all_states(alloc, topology, script) else {
+    let Ok(states) = all_states(alloc, form, topology, script) else {
         return Err(CheckError::Memory);
     };
-    report_by_few(alloc, topology, &labels, few, &states)
+    report_by_few(alloc, form, topology, &labels, few, &states)
 }
 
 /// Runs a script without its labels and expectations on a topology, and writes the report of whether the run is as they have
-/// it, as the Test Anything Protocol has it: a line for each expectation, in order, and one for each refused event that none
-/// expects. Of the run the events that have a label or are refused, and the rounds that meet an expectation, are held in memory, by a
+/// it, as the Test Anything Protocol has it, or the objects of its lines: a line for each expectation, in order, and one for each
+/// refused event that none expects. Of the run the events that have a label or are refused, and the rounds that meet an expectation, are held in memory, by a
 /// wider window where it hangs from a label; all of them only where a test failed whose window no round meets. Where a pattern has
 /// names, each round says who holds which address.
 ///
@@ -184,18 +196,20 @@ fn report_of(alloc: Global, topology: &[u8], script: &[u8]) -> Result<ReportDraf
 ///
 /// Those of `emulate` for the plain script, and then the first line of the script whose label or expectation is at fault: then
 /// nothing was written. A failed write: then the front of the report was written, as long as it reports.
+#[tactic(auto, using(crate::proofs::Checked::in_each_form))]
 pub fn check<S: Sink>(
     alloc: Global,
+    form: Form,
     topology: &[u8],
     script: &[u8],
     out: &mut S,
 ) -> Result<Tally, CheckError>
-    ensures ok { IfOk result (IsChecked topology.now script.now (S.contents out.old) (S.contents out.new)) }
-    ensures reported { IfErr result (IsCheckReported topology.now script.now) }
+    ensures ok { IfOk result (IsChecked form topology.now script.now (S.contents out.old) (S.contents out.new)) }
+    ensures reported { IfErr result (IsCheckReported form topology.now script.now) }
     ensures write { S.is_stuck out.old ≡ false → (IsTrue (is_write result) ↔ IsTrue (S.is_stuck out.new)) }
-    ensures cut { IfErr result (IsCheckCut topology.now script.now (S.contents out.old) (S.contents out.new)) }
+    ensures cut { IfErr result (IsCheckCut form topology.now script.now (S.contents out.old) (S.contents out.new)) }
 {
-    let report = match report_of(alloc, topology, script) {
+    let report = match report_of(alloc, form, topology, script) {
         Ok(report) => report,
         Err(error) => return Err(error),
     };
@@ -215,5 +229,5 @@ pub fn verdicts(alloc: Global, topology: &[u8], script: &[u8]) -> Result<Vec<boo
     ensures ok { IfOk result (λ verdicts. AreVerdictsOf topology.now script.now verdicts.items) }
     ensures reported { IfErr result (IsVerdictReported topology.now script.now) }
 {
-    Ok(report_of(alloc, topology, script)?.verdicts)
+    Ok(report_of(alloc, Form::Text, topology, script)?.verdicts)
 }

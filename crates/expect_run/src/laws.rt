@@ -2,7 +2,7 @@
 ghost use Rattle.expect_run.specs.Check.{TalliesCountVerdicts};
 ghost use Rattle.expect_run.specs.Cuts.{CutsAreRead};
 
-use expect_told::{texts_end_so, texts_have_one_told};
+use expect_told::texts_end_so;
 use room_run::texts_have_one_line;
 
 /// The tally of a check counts the verdicts of the same texts, and as failed those of them that are false.
@@ -10,7 +10,6 @@ pub fn tallies_count_verdicts()
     ensures { TalliesCountVerdicts }
 {
     // No effect at run time. The proof reads these laws.
-    texts_have_one_told();
     texts_end_so();
     texts_have_one_line();
 }

@@ -15,4 +15,4 @@ mod watch;
 
 pub use checking::{CheckError, Tally, check, tally_of, verdicts};
 pub use laws::{cut_scripts_are_read, tallies_count_verdicts};
-pub use report::{ReportDraft, add_plan, add_test, open_report, whole_report};
+pub use report::{ReportDraft, add_plan, add_test, open_report};

@@ -2,14 +2,15 @@
 ghost use Rattle.std.specs.Prelude.{◌≡◌, ◌||◌, ◌++◌, ◌∷◌, [], map, OnOk};
 ghost use Rattle.expect_judge.specs.Told.{event_as, kept_as, round_as};
 ghost use Rattle.expect_run.specs.Kept.{is_event_kept, is_round_kept, is_timed};
-ghost use Rattle.expect_run.specs.Sifted.{events_if, first_sifting, rounds_if, sifted_as};
+ghost use Rattle.expect_run.specs.Sifted.{events_if, first_sifting, rounds_if, shown_as, sifted_as};
 ghost use Rattle.expect_told.specs.Turns.{round_told};
 
 use crate::needs::Needs;
 use device_core::Device;
 use expect_judge::{EventLine, KeptRound, RoundLine};
-use expect_told::{is_complete, refusal_said, say_round};
+use expect_told::{is_complete, refusal_said, round_shown, say_round};
 use line_rounds::Outcome;
+use record_core::Form;
 use room_net::Net;
 use room_run::{AppliedEvent, Reporter};
 use std::alloc::{AllocError, Global};
@@ -24,6 +25,8 @@ pub(crate) struct RunTold<'a> {
     pub all: bool,
     /// Whether rounds say who holds which address.
     pub named: bool,
+    /// How rounds are shown below a test that failed.
+    pub form: Form,
     said: Held,
     pub rounds: Vec<KeptRound>,
     pub events: Vec<EventLine<'static>>,
@@ -38,13 +41,14 @@ pub(crate) struct KeptTold {
     pub events: Vec<EventLine<'static>>,
 }
 
-// Keeps a round.
+// Keeps a round, with what stands of it below a test that failed.
 fn push_round(
     alloc: Global,
     rounds: &mut Vec<KeptRound>,
     round: &RoundLine<'_>,
+    shown: Vec<u8>,
 ) -> Result<(), AllocError>
-    ensures { OnOk result (map kept_as rounds.new.items ≡ map kept_as rounds.old.items ++ round_as round.now ∷ []) }
+    ensures { OnOk result (map kept_as rounds.new.items ≡ map kept_as rounds.old.items ++ shown_as (round_as round.now) shown.items ∷ []) }
 {
     let mut reported = Vec::new(alloc);
     reported.extend_from_slice(round.reported)?;
@@ -53,6 +57,7 @@ fn push_round(
         at: round.at,
         is_complete: round.is_complete,
         reported,
+        shown,
     })?;
     Ok(())
 }
@@ -78,22 +83,6 @@ fn is_on_time(needs: &Needs<'_>, all: bool, event: &EventLine<'_>) -> bool
     all || needs.is_timed(event)
 }
 
-// Keeps a round, where it is needed.
-fn keep_round(
-    alloc: Global,
-    needs: &Needs<'_>,
-    all: bool,
-    rounds: &mut Vec<KeptRound>,
-    round: &RoundLine<'_>,
-) -> Result<(), AllocError>
-    ensures { OnOk result (map kept_as rounds.new.items ≡ map kept_as rounds.old.items ++ rounds_if all needs.now.script.now (round_as round.now)) }
-{
-    if !is_round_wanted(needs, all, round) {
-        return Ok(());
-    }
-    push_round(alloc, rounds, round)
-}
-
 // Keeps an event, where it is needed.
 fn keep_event(
     needs: &Needs<'_>,
@@ -112,14 +101,15 @@ fn keep_event(
 
 impl<'a> RunTold<'a> {
     /// Nothing is heard yet.
-    pub(crate) fn new(alloc: Global, needs: Needs<'a>, all: bool, named: bool) -> Self
-        ensures { sifted_as result ≡ first_sifting needs.entry.script.now all named }
+    pub(crate) fn new(alloc: Global, needs: Needs<'a>, all: bool, named: bool, form: Form) -> Self
+        ensures { sifted_as result ≡ first_sifting form needs.entry.script.now all named }
     {
         RunTold {
             alloc,
             needs,
             all,
             named,
+            form,
             said: Held::new(alloc),
             rounds: Vec::new(alloc),
             events: Vec::new(alloc),
@@ -128,26 +118,34 @@ impl<'a> RunTold<'a> {
         }
     }
 
-    // Says a round, and keeps it where it is needed.
+    // Says a round, and keeps it where it is needed: only then it is shown.
+    #[tactic(auto, using(crate::proofs::Sifting::skipped_round, crate::proofs::Sifting::kept_round))]
     fn hear_round(&mut self, devices: &[Device<16>], outcome: &Outcome) -> Result<(), AllocError>
-        ensures same { (self.new.needs ≡ self.old.needs) × (self.new.all ≡ self.old.all) × (self.new.named ≡ self.old.named) × (self.new.lost ≡ self.old.lost) × (self.new.events ≡ self.old.events) }
-        ensures kept { OnOk result (map kept_as self.new.rounds.items ≡ map kept_as self.old.rounds.items ++ rounds_if self.old.all self.old.needs.script.now (round_told self.old.named devices.now outcome.now)) }
+        ensures same { (self.new.needs ≡ self.old.needs) × (self.new.all ≡ self.old.all) × (self.new.named ≡ self.old.named) × (self.new.form ≡ self.old.form) × (self.new.lost ≡ self.old.lost) × (self.new.events ≡ self.old.events) }
+        ensures kept { OnOk result (map kept_as self.new.rounds.items ≡ map kept_as self.old.rounds.items ++ rounds_if self.old.all self.old.needs.script.now (round_told self.old.form self.old.named devices.now outcome.now)) }
     {
         let alloc = self.alloc;
         let all = self.all;
+        let form = self.form;
         say_round(&mut self.said, self.named, devices, outcome)?;
         let round = RoundLine {
             begin: outcome.reading.begin,
             at: outcome.reading.at,
             is_complete: is_complete(outcome.reading.ending),
             reported: self.said.bytes(),
+            shown: &[],
         };
-        keep_round(alloc, &self.needs, all, &mut self.rounds, &round)
+        if !is_round_wanted(&self.needs, all, &round) {
+            return Ok(());
+        }
+        let shown = round_shown(alloc, form, devices, outcome)?;
+        push_round(alloc, &mut self.rounds, &round, shown)
     }
 }
 
 impl Reporter for RunTold<'_> {
     ghost use Rattle.std.specs.Prelude.{not};
+    ghost use Rattle.expect_run.specs.Kept.{is_round_kept};
     ghost use Rattle.expect_run.specs.Sifted.{SiftsOne, sifted_as};
 
     ghost hears = { λ r x s. SiftsOne (sifted_as r) x (sifted_as s) };

@@ -6,6 +6,7 @@ use Rattle.std.proofs.lemmas.List.Elements.{All-append, All-cons, All-head, All-
 use Rattle.std.proofs.lemmas.List.Folds.{list_all-append}
 use Rattle.std.proofs.lemmas.Grind.{flat_map-append}
 use Rattle.std.proofs.lemmas.List.{map-append}
+use Rattle.record_core.specs.declared.cell.Form.{Form}
 use Rattle.expect_sweep.specs.Series.{InstantSeries, instants_from, instants, instants_of}
 use Rattle.expect_sweep.specs.Stretches.{AreStretches, DifferInTurn, StretchesDraft, IsFound, Stretch, all_hold, are_all_ok, are_same, first_draft, draft_at_end, instants_in, longer, next, stretch_line, stretches_text, with_instant}
 use lib.Pointwise.{pointwise_decides}
@@ -20,7 +21,7 @@ pub record IsDraft (Found : ℕ → List Bool → Type 0) (s : InstantSeries) (d
   pub found : All (IsFound Found s.step) before
   pub found_last : IsFound Found s.step d.last
   pub longest : DifferInTurn (map (λ x. x.verdicts) before ++ d.last.verdicts ∷ [])
-  pub text : d.text ≡ stretches_text before
+  pub text : d.text ≡ stretches_text d.form before
   pub holds : d.holds ≡ (all_hold before && are_all_ok d.last.verdicts)
   pub passed : ℕ
   pub done : d.done ≡ suc passed
@@ -57,8 +58,8 @@ booleans false false = (λ e. refl, λ e. refl)
 
 -- ---- the first instant
 
-pub begun_is : (Found : ℕ → List Bool → Type 0) (s : InstantSeries) (vs : List Bool) → 0 < s.step → Found s.from vs → IsDraft Found s (first_draft s.from vs)
-begun_is Found s vs moves found = record {
+pub begun_is : (form : Form) (Found : ℕ → List Bool → Type 0) (s : InstantSeries) (vs : List Bool) → 0 < s.step → Found s.from vs → IsDraft Found s (first_draft form s.from vs)
+begun_is form Found s vs moves found = record {
   before = [];
   count = 0;
   grid = omega arith;
@@ -139,7 +140,7 @@ next_is Found s d vs moves within room found differs is = record {
   found_last = All-same (λ t. Found t vs) (instants s.step (d.last.last + s.step) (d.last.last + s.step)) ((d.last.last + s.step) ∷ []) alone
       (All-cons (λ t. Found t vs) (d.last.last + s.step) [] found (All-nil (λ t. Found t vs)));
   longest = subst (λ vss. DifferInTurn (vss ++ vs ∷ [])) (sym (verdicts_push is.before d.last)) (differ_push (map (λ x. x.verdicts) is.before) d.last.verdicts vs is.longest differs);
-  text = ap (λ t. t ++ stretch_line d.last) is.text ∙ sym (flat_map_push stretch_line is.before d.last);
+  text = ap (λ t. t ++ stretch_line d.form d.last) is.text ∙ sym (flat_map_push (stretch_line d.form) is.before d.last);
   holds = ap (λ b. b && are_all_ok vs) (is.holds ∙ sym (all_hold_push is.before d.last));
   passed = suc is.passed;
   done = omega (arith, is.done);
@@ -177,8 +178,8 @@ more_is Found s d vs moves within room found is =
 -- ---- the last instant
 
 pub ended_is : (Found : ℕ → List Bool → Type 0) (s : InstantSeries) (d : StretchesDraft) → 0 < s.step → s.to - d.last.last < s.step → IsDraft Found s d
-    → (stretches : List Stretch) × AreStretches Found s stretches × ((draft_at_end d).text ≡ stretches_text stretches) × (d.holds ≡ all_hold stretches)
-ended_is Found s d moves last is = (is.before ++ d.last ∷ [], are, ap (λ t. t ++ stretch_line d.last) is.text ∙ sym (flat_map_push stretch_line is.before d.last), is.holds ∙ sym (all_hold_push is.before d.last)) where
+    → (stretches : List Stretch) × AreStretches Found s stretches × ((draft_at_end d).text ≡ stretches_text d.form stretches) × (d.holds ≡ all_hold stretches)
+ended_is Found s d moves last is = (is.before ++ d.last ∷ [], are, ap (λ t. t ++ stretch_line d.form d.last) is.text ∙ sym (flat_map_push (stretch_line d.form) is.before d.last), is.holds ∙ sym (all_hold_push is.before d.last)) where
   all : flat_map (instants_in s.step) (is.before ++ d.last ∷ []) ≡ instants_of s
   all = flat_map_push (instants_in s.step) is.before d.last
       ∙ ap (λ ts. flat_map (instants_in s.step) is.before ++ ts) (sym (append-nil (instants_in s.step d.last)))
@@ -217,9 +218,9 @@ over_before Found s d moves within room is = (
 
 -- ---- as they are made
 
-pub draft_begun : (Found : ℕ → List Bool → Type 0) (s : InstantSeries) (d : StretchesDraft) (at : ℕ) (vs : List Bool) → at ≡ s.from → d ≡ first_draft at vs → 0 < s.step → Found at vs → IsDraft Found s d
-draft_begun Found s d at vs is made moves found =
-    subst (IsDraft Found s) (sym (made ∙ ap (λ t. first_draft t vs) is)) (begun_is Found s vs moves (subst (λ t. Found t vs) is found))
+pub draft_begun : (form : Form) (Found : ℕ → List Bool → Type 0) (s : InstantSeries) (d : StretchesDraft) (at : ℕ) (vs : List Bool) → at ≡ s.from → d ≡ first_draft form at vs → 0 < s.step → Found at vs → IsDraft Found s d
+draft_begun form Found s d at vs is made moves found =
+    subst (IsDraft Found s) (sym (made ∙ ap (λ t. first_draft form t vs) is)) (begun_is form Found s vs moves (subst (λ t. Found t vs) is found))
 
 last_by : (d : StretchesDraft) (t : ℕ) (vs : List Bool) (same : Bool) → (cond same (longer d t) (next d t vs)).last.last ≡ t
 last_by d t vs true = refl
@@ -236,10 +237,18 @@ draft_more Found s d e at step to vs step_is to_is last made moves within room f
     let more : s.step ≤ s.to - d.last.last = omega (arith, step_is, to_is, last, room) in
     subst (IsDraft Found s) (sym (made ∙ ap (λ u. with_instant d u vs) t)) (more_is Found s d vs moves before more (subst (λ u. Found u vs) t found) is)
 
-pub draft_ended : (Found : ℕ → List Bool → Type 0) (s : InstantSeries) (d e : StretchesDraft) (at step to : ℕ) → step ≡ s.step → to ≡ s.to → d.last.last ≡ at → e ≡ draft_at_end d
+form_by : (d : StretchesDraft) (t : ℕ) (vs : List Bool) (same : Bool) → (cond same (longer d t) (next d t vs)).form ≡ d.form
+form_by d t vs true = refl
+form_by d t vs false = refl
+
+-- the form stays
+pub form_is : (d e : StretchesDraft) (form : Form) (t : ℕ) (vs : List Bool) → e ≡ with_instant d t vs → d.form ≡ form → e.form ≡ form
+form_is d e form t vs made is = ap (λ (x : StretchesDraft). x.form) made ∙ form_by d t vs (are_same d.last.verdicts vs) ∙ is
+
+pub draft_ended : (form : Form) (Found : ℕ → List Bool → Type 0) (s : InstantSeries) (d e : StretchesDraft) (at step to : ℕ) → d.form ≡ form → step ≡ s.step → to ≡ s.to → d.last.last ≡ at → e ≡ draft_at_end d
     → 0 < s.step → to - at < step → IsDraft Found s d
-    → (stretches : List Stretch) × AreStretches Found s stretches × (e.text ≡ stretches_text stretches) × (e.holds ≡ all_hold stretches)
-draft_ended Found s d e at step to step_is to_is last made moves none is =
+    → (stretches : List Stretch) × AreStretches Found s stretches × (e.text ≡ stretches_text form stretches) × (e.holds ≡ all_hold stretches)
+draft_ended form Found s d e at step to same step_is to_is last made moves none is =
     let past : s.to - d.last.last < s.step = omega (arith, step_is, to_is, last, none) in
     let done = ended_is Found s d moves past is in
-    (done.0, done.1, ap (λ (x : StretchesDraft). x.text) made ∙ done.2, ap (λ (x : StretchesDraft). x.holds) made ∙ done.3)
+    (done.0, done.1, ap (λ (x : StretchesDraft). x.text) made ∙ done.2 ∙ ap (λ (f : Form). stretches_text f done.0) same, ap (λ (x : StretchesDraft). x.holds) made ∙ done.3)

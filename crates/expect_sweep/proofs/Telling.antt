@@ -1,11 +1,12 @@
 -- How far a sweep is, as it is told.
-use Rattle.std.proofs.Common.{◌≡◌, ℕ, zero, suc, ◌+◌, ◌-◌, ◌*◌, ◌/◌, ◌%◌, ◌==◌, ◌<◌, ◌≤◌, Bool, true, false, List, [], ◌∷◌, ◌++◌, length, cond, Ok, Err, Some, ap, sym, refl, subst, ◌∙◌, arith, append-nil}
+use Rattle.std.proofs.Common.{◌≡◌, ℕ, suc, ◌+◌, ◌-◌, ◌*◌, ◌/◌, ◌%◌, ◌==◌, ◌<◌, ◌≤◌, Bool, true, false, List, [], ◌∷◌, ◌++◌, length, cond, ap, sym, refl, subst, ◌∙◌, arith, append-nil}
 use Rattle.std.specs.List.{flat_map}
 use Rattle.std.proofs.lemmas.Bool.Decides.{nat_tests}
 use Rattle.std.proofs.lemmas.List.Elements.{All-push}
 use Rattle.expect_sweep.specs.Progress.{IsHeardAll, IsHeardSome, IsHeardTo, IsProgress, IsTold, first_instants, told_each}
 use Rattle.expect_sweep.specs.Series.{InstantSeries, instants, instants_from, instants_of}
-use Rattle.expect_sweep.specs.Stretches.{AreStretches, DifferInTurn, IsFound, Stretch, StretchesDraft, are_same, first_draft, instants_in, longer, next, with_instant}
+use Rattle.record_core.specs.declared.cell.Form.{Form}
+use Rattle.expect_sweep.specs.Stretches.{AreStretches, DifferInTurn, IsFound, StretchesDraft, are_same, first_draft, instants_in, longer, next, with_instant}
 use Rattle.expect_sweep.specs.declared.progress.SweepProgress.{SweepProgress}
 use Rattle.expect_sweep.proofs.Instants.{counted, counted_none, instants_up_to}
 use Rattle.expect_sweep.proofs.Stretching.{IsDraft, flat_map_push, length-push, verdicts_push}
@@ -35,9 +36,9 @@ progress_is Found s d count all is = record {
 
 -- ---- as they are made
 
-pub begun_heard : {H : Type 0} (hears : H → SweepProgress → H → Type 0) (Found : ℕ → List Bool → Type 0) (s : InstantSeries) (d : StretchesDraft) (at : ℕ) (vs : List Bool) (old : H) → d ≡ first_draft at vs
+pub begun_heard : {H : Type 0} (hears : H → SweepProgress → H → Type 0) (Found : ℕ → List Bool → Type 0) (s : InstantSeries) (form : Form) (d : StretchesDraft) (at : ℕ) (vs : List Bool) (old : H) → d ≡ first_draft form at vs
     → IsHeardTo hears Found s ((d.done - 1) / told_each) old old
-begun_heard {H} hears Found s d at vs old made = subst (λ (x : StretchesDraft). IsHeardTo hears Found s ((x.done - 1) / told_each) old old) (sym made) refl
+begun_heard {H} hears Found s form d at vs old made = subst (λ (x : StretchesDraft). IsHeardTo hears Found s ((x.done - 1) / told_each) old old) (sym made) refl
 
 one_by : (d : StretchesDraft) (t : ℕ) (vs : List Bool) (same : Bool) → (cond same (longer d t) (next d t vs)).done ≡ d.done + 1
 one_by d t vs true = refl

@@ -1,6 +1,6 @@
 -- The range of a script, and the script at an instant (own). A range stands in the place of a time: a word whose first point is
 -- followed by another. Lines count from 1, words from 0.
-use Rattle.std.specs.Prelude.{ℕ, ◌+◌, ◌&&◌, Bool, if◌then◌else◌, List, [], ◌∷◌, ◌++◌, Option, Some, None, Result, Ok, Err}
+use Rattle.std.specs.Prelude.{ℕ, ◌+◌, ◌&&◌, Bool, true, false, if◌then◌else◌, List, [], ◌∷◌, ◌++◌, Option, Some, None, Result, Ok, Err}
 use Rattle.std.specs.Fmt.{decimal}
 use Rattle.std.specs.List.{flat_map}
 use Rattle.text_core.specs.Lines.{lines_of}
@@ -44,6 +44,14 @@ lines_ranged number seen (line ∷ lines) = and_then (words_ranged number 0 Begi
 -- the range of a script, or its first line at fault: a range that is none, or a second one
 abbrev pub range_of : List ℕ → Result (Option InstantSeries) (At RangeCause)
 range_of script = lines_ranged 1 None (lines_of script)
+
+abbrev pub is_some_range : Result (Option InstantSeries) (At RangeCause) → Bool
+is_some_range (Ok (Some series)) = true
+is_some_range _ = false
+
+-- whether it has one, and no line at fault
+abbrev pub has_range : List ℕ → Bool
+has_range script = is_some_range (range_of script)
 
 -- ---- the script at an instant
 

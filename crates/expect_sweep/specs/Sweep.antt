@@ -3,6 +3,7 @@
 use Rattle.std.specs.Prelude.{◌≡◌, ℕ, ◌<◌, Bool, true, false, List, ◌∷◌, ◌++◌, length, take, Option, Some, None, Result, Ok, Err}
 use Rattle.std.specs.List.{All}
 use Rattle.std.specs.Io.KnownBytes.{Appends}
+use Rattle.record_core.specs.declared.cell.Form.{Form}
 use Rattle.expect_run.specs.Check.{AreVerdictsOf, IsVerdictReported}
 use Rattle.expect_run.specs.declared.checking.CheckError.{CheckError}
 use Rattle.expect_sweep.specs.Order.{ordered_range}
@@ -22,9 +23,9 @@ pub record IsSweepOf (topology script : List ℕ) (stretches : List Stretch) : T
   pub range : ordered_range script ≡ Ok (Some series)
   pub are : AreStretches (AreVerdictsAt topology script) series stretches
 
--- their lines are written; the answer is whether each verdict at each instant is ok
-abbrev pub IsSwept : List ℕ → List ℕ → Option (List ℕ) → Option (List ℕ) → Bool → Type 0
-IsSwept topology script old new holds = (stretches : List Stretch) × IsSweepOf topology script stretches × (holds ≡ all_hold stretches) × Appends old new (stretches_text stretches)
+-- their lines, or objects, are written; the answer is whether each verdict at each instant is ok
+abbrev pub IsSwept : Form → List ℕ → List ℕ → Option (List ℕ) → Option (List ℕ) → Bool → Type 0
+IsSwept form topology script old new holds = (stretches : List Stretch) × IsSweepOf topology script stretches × (holds ≡ all_hold stretches) × Appends old new (stretches_text form stretches)
 
 -- the script is refused at an instant of a series, and at none before
 pub record IsFirstRefusal (topology script : List ℕ) (s : InstantSeries) (instant : ℕ) (error : CheckError) : Type 0 where
@@ -46,13 +47,13 @@ IsSweepReported topology script (Write count) = (stretches : List Stretch) × Is
 IsSweepReported topology script Memory = Unit {0}
 
 -- what a refusal has written: after a failed write the front of the lines, as long as it reports, and else nothing
-abbrev pub IsSweepCut : List ℕ → List ℕ → Option (List ℕ) → Option (List ℕ) → SweepError → Type 0
-IsSweepCut topology script old new (Write count) =
-    (stretches : List Stretch) × IsSweepOf topology script stretches × (count < length (stretches_text stretches)) × Appends old new (take count (stretches_text stretches))
-IsSweepCut topology script old new NoRange = new ≡ old
-IsSweepCut topology script old new (Range fault) = new ≡ old
-IsSweepCut topology script old new (At instant error) = new ≡ old
-IsSweepCut topology script old new Memory = new ≡ old
+abbrev pub IsSweepCut : Form → List ℕ → List ℕ → Option (List ℕ) → Option (List ℕ) → SweepError → Type 0
+IsSweepCut form topology script old new (Write count) =
+    (stretches : List Stretch) × IsSweepOf topology script stretches × (count < length (stretches_text form stretches)) × Appends old new (take count (stretches_text form stretches))
+IsSweepCut form topology script old new NoRange = new ≡ old
+IsSweepCut form topology script old new (Range fault) = new ≡ old
+IsSweepCut form topology script old new (At instant error) = new ≡ old
+IsSweepCut form topology script old new Memory = new ≡ old
 
 abbrev pub is_write : Result Bool SweepError → Bool
 is_write (Ok holds) = false
@@ -80,6 +81,6 @@ IsSeriesReported topology script s (Range fault) = ⊥
 IsSeriesReported topology script s (Write count) = ⊥
 
 -- the lines of all stretches
-abbrev pub IsSweptDraft : List ℕ → List ℕ → InstantSeries → StretchesDraft → Type 0
-IsSweptDraft topology script s d =
-    (stretches : List Stretch) × AreStretches (AreVerdictsAt topology script) s stretches × (d.text ≡ stretches_text stretches) × (d.holds ≡ all_hold stretches)
+abbrev pub IsSweptDraft : Form → List ℕ → List ℕ → InstantSeries → StretchesDraft → Type 0
+IsSweptDraft form topology script s d =
+    (stretches : List Stretch) × AreStretches (AreVerdictsAt topology script) s stretches × (d.text ≡ stretches_text form stretches) × (d.holds ≡ all_hold stretches)

@@ -10,4 +10,5 @@ mod stretches;
 mod sweeping;
 
 pub use progress::{ProgressHearer, SilentProgress, SweepProgress};
+pub use script::has_range;
 pub use sweeping::{SweepError, sweep};

@@ -2,7 +2,7 @@
 ghost use Rattle.std.specs.Prelude.{◌≡◌, ◌++◌, ◌&&◌, Ok, Err, Some, None, IfOk, OnOk};
 ghost use Rattle.std.specs.Option.{option_copied};
 ghost use Rattle.text_core.specs.Words.{words_after, words_of};
-ghost use Rattle.expect_sweep.specs.Script.{is_range_at, line_at, mark_before, range_of, script_at, with_range, with_word, word_at, words_ranged};
+ghost use Rattle.expect_sweep.specs.Script.{has_range, is_range_at, line_at, mark_before, range_of, script_at, with_range, with_word, word_at, words_ranged};
 
 use crate::places::WordRole;
 use crate::series::{InstantSeries, is_range, series_in};
@@ -103,6 +103,16 @@ pub(crate) fn range_of(script: &[u8]) -> Result<Option<InstantSeries>, At<RangeC
         number += 1;
     }
     Ok(seen)
+}
+
+/// Whether a script has a range, and no line at fault.
+pub fn has_range(script: &[u8]) -> bool
+    ensures { result ≡ has_range script.now }
+{
+    match range_of(script) {
+        Ok(Some(_)) => true,
+        Ok(None) | Err(_) => false,
+    }
 }
 
 fn push_word(text: &mut Vec<u8>, at: u64, place: WordRole, word: &[u8]) -> Result<(), AllocError>

@@ -1,16 +1,19 @@
-//! Stretches of instants at which the same is found, as they are made, and their lines.
+//! Stretches of instants at which the same is found, as they are made, and their lines or objects.
 ghost use Rattle.std.specs.Prelude.{◌≡◌, ◌≤◌, ◌++◌, ◌&&◌, OnOk};
-ghost use Rattle.std.specs.Fmt.{decimal};
-ghost use Rattle.std.specs.List.{flat_map};
 ghost use Rattle.line_wave.specs.Bounds.{latest_event};
-ghost use Rattle.expect_sweep.specs.Stretches.{are_all_ok, are_same, first_draft, draft_as, draft_at_end, verdict_text, with_instant};
+ghost use Rattle.text_core.specs.Held.{held_bytes};
+ghost use Rattle.expect_sweep.specs.Stretches.{are_all_ok, are_same, first_draft, draft_as, draft_at_end, stretch_line, with_instant};
 
+use expect_remarks::append_record;
+use record_core::{Form, Value, cells};
 use std::alloc::{AllocError, Global};
+use text_core::{Held, Piece};
 
 /// The stretches of the instants so far: the lines of those that have ended, and the last one.
 #[derive(Drop)]
 pub(crate) struct StretchesDraft {
-    pub(crate) text: Vec<u8>,
+    form: Form,
+    pub(crate) text: Held,
     first: u64,
     last: u64,
     verdicts: Vec<bool>,
@@ -40,36 +43,33 @@ fn both(left: bool, right: bool) -> bool
     left && right
 }
 
-fn push_decimal(text: &mut Vec<u8>, number: u64) -> Result<(), AllocError>
-    ensures { OnOk result (text.new.items ≡ text.old.items ++ decimal number) }
+// Appends the line of a stretch, or its object.
+fn append_stretch(
+    out: &mut Held,
+    form: Form,
+    first: u64,
+    last: u64,
+    verdicts: &[bool],
+) -> Result<(), AllocError>
+    ensures { OnOk result (held_bytes out.new ≡ held_bytes out.old ++ stretch_line form (record { first = first; last = last; verdicts = verdicts.now })) }
 {
-    let mut digits = itoa::Buffer::new();
-    text.extend_from_slice(digits.format(number).as_bytes())
-}
-
-fn verdict_text(verdict: bool) -> &'static [u8]
-    ensures { result.now ≡ verdict_text verdict }
-{
-    if verdict { b" ok" } else { b" not-ok" }
-}
-
-fn push_verdicts(text: &mut Vec<u8>, verdicts: &[bool]) -> Result<(), AllocError>
-    ensures { OnOk result (text.new.items ≡ text.old.items ++ flat_map verdict_text verdicts.now) }
-{
-    for verdict in verdicts {
-        text.extend_from_slice(verdict_text(*verdict))?;
-    }
-    Ok(())
+    let cells = cells![
+        both("", "from", Value::One(Piece::Decimal(first))),
+        both("..", "to", Value::One(Piece::Decimal(last))),
+        both("", "holds", Value::Verdicts(verdicts)),
+    ];
+    append_record(out, form, "stretch", &cells)
 }
 
 impl StretchesDraft {
     /// One instant.
-    pub(crate) fn new(alloc: Global, at: u64, verdicts: Vec<bool>) -> Self
-        ensures { draft_as result ≡ first_draft at verdicts.items }
+    pub(crate) fn new(alloc: Global, form: Form, at: u64, verdicts: Vec<bool>) -> Self
+        ensures { draft_as result ≡ first_draft form at verdicts.items }
     {
         let holds = are_all_ok(&verdicts);
         StretchesDraft {
-            text: Vec::new(alloc),
+            form,
+            text: Held::new(alloc),
             first: at,
             last: at,
             verdicts,
@@ -79,15 +79,17 @@ impl StretchesDraft {
         }
     }
 
-    /// Writes the line of the last stretch.
+    /// Writes the line of the last stretch, or its object.
     pub(crate) fn end(&mut self) -> Result<(), AllocError>
         ensures { OnOk result (draft_as self.new ≡ draft_at_end (draft_as self.old)) }
     {
-        push_decimal(&mut self.text, self.first)?;
-        self.text.extend_from_slice(b"..")?;
-        push_decimal(&mut self.text, self.last)?;
-        push_verdicts(&mut self.text, &self.verdicts)?;
-        self.text.extend_from_slice(b"\n")
+        append_stretch(
+            &mut self.text,
+            self.form,
+            self.first,
+            self.last,
+            &self.verdicts,
+        )
     }
 
     /// One more instant.

@@ -13,6 +13,7 @@ use crate::series::InstantSeries;
 use crate::stretches::StretchesDraft;
 use expect_run::{CheckError, verdicts};
 use expect_text::RangeCause;
+use record_core::Form;
 use std::alloc::Global;
 use text_core::{At, Sink, put_all};
 use thiserror::Error;
@@ -60,12 +61,13 @@ fn verdicts_at(
 // The stretches of a series.
 fn swept<H: ProgressHearer>(
     alloc: Global,
+    form: Form,
     topology: &[u8],
     script: &[u8],
     series: &InstantSeries,
     hearer: &mut H,
 ) -> Result<StretchesDraft, SweepError>
-    ensures ok { IfOk result (λ draft. IsSweptDraft topology.now script.now series.now (draft_as draft)) }
+    ensures ok { IfOk result (λ draft. IsSweptDraft form topology.now script.now series.now (draft_as draft)) }
     ensures reported { IfErr result (IsSeriesReported topology.now script.now series.now) }
     ensures heard { IfOk result (λ draft. IsHeardAll H.hears (AreVerdictsAt topology.now script.now) series.now hearer.old hearer.new) }
     ensures heard_some { IfErr result (λ error. IsHeardSome H.hears (AreVerdictsAt topology.now script.now) series.now hearer.old hearer.new) }
@@ -78,7 +80,7 @@ fn swept<H: ProgressHearer>(
         Err(error) => return Err(error),
         Ok(first) => first,
     };
-    let mut draft = StretchesDraft::new(alloc, at, first);
+    let mut draft = StretchesDraft::new(alloc, form, at, first);
     'instants: while step <= to - at {
         tell(hearer, draft.done, count, draft.stretches);
         at += step;
@@ -98,8 +100,8 @@ fn swept<H: ProgressHearer>(
 }
 
 /// Checks a script with each instant of its range in the place of one of its times, `T..U` or `T..U/S`, and writes a line for
-/// each longest stretch of instants in a row whose verdicts are the same: its first and its last instant, and the verdicts.
-/// Returns whether all of them are ok. The lines are held in memory. After each 1,000 instants, as long as there are more, the
+/// each longest stretch of instants in a row whose verdicts are the same: its first and its last instant, and the verdicts; or the
+/// objects of these lines. Returns whether all of them are ok. The lines are held in memory. After each 1,000 instants, as long as there are more, the
 /// hearer hears how far the sweep is.
 ///
 /// # Errors
@@ -108,15 +110,16 @@ fn swept<H: ProgressHearer>(
 /// was written. A failed write: then the front of the lines was written, as long as it reports.
 pub fn sweep<S: Sink, H: ProgressHearer>(
     alloc: Global,
+    form: Form,
     topology: &[u8],
     script: &[u8],
     out: &mut S,
     hearer: &mut H,
 ) -> Result<bool, SweepError>
-    ensures ok { IfOk result (IsSwept topology.now script.now (S.contents out.old) (S.contents out.new)) }
+    ensures ok { IfOk result (IsSwept form topology.now script.now (S.contents out.old) (S.contents out.new)) }
     ensures reported { IfErr result (IsSweepReported topology.now script.now) }
     ensures write { S.is_stuck out.old ≡ false → (IsTrue (is_write result) ↔ IsTrue (S.is_stuck out.new)) }
-    ensures cut { IfErr result (IsSweepCut topology.now script.now (S.contents out.old) (S.contents out.new)) }
+    ensures cut { IfErr result (IsSweepCut form topology.now script.now (S.contents out.old) (S.contents out.new)) }
     ensures heard { IsSweepHeard H.hears topology.now script.now result hearer.old hearer.new }
 {
     let series = match ordered_range(script) {
@@ -124,11 +127,11 @@ pub fn sweep<S: Sink, H: ProgressHearer>(
         Ok(None) => return Err(SweepError::NoRange),
         Ok(Some(series)) => series,
     };
-    let draft = match swept(alloc, topology, script, &series, hearer) {
+    let draft = match swept(alloc, form, topology, script, &series, hearer) {
         Err(error) => return Err(error),
         Ok(draft) => draft,
     };
-    match put_all(out, &draft.text) {
+    match put_all(out, draft.text.bytes()) {
         Ok(()) => Ok(draft.holds),
         Err(fault) => Err(SweepError::Write(fault.count)),
     }

@@ -1,2 +1,3 @@
 pub mod Listed
 pub mod OneTold
+pub mod MarkedRecords

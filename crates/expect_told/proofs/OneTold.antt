@@ -99,5 +99,5 @@ texts_end_so outcome read topology plain xs ys c d p q =
     one_run outcome p.course.end xs ys (start (first_net p.plan.tree p.course.pulses) p.course.events) c d p.goes goes p.stops stops
 
 pub texts_have_one_told : TextsEndSo → TextsHaveOneTold
-texts_have_one_told law topology script t u p q =
-    p.told_is ∙ ap (told_by (has_names script)) (law topology (plain_script script) p.happened q.happened p.last q.last p.run q.run).0 ∙ sym q.told_is
+texts_have_one_told law form topology script t u p q =
+    p.told_is ∙ ap (told_by form (has_names script)) (law topology (plain_script script) p.happened q.happened p.last q.last p.run q.run).0 ∙ sym q.told_is

@@ -1,3 +1,4 @@
+pub mod Shown
 pub mod Said
 pub mod Senders
 pub mod Turns

@@ -1,4 +1,5 @@
 //! Laws of what is told of a run.
+ghost use Rattle.expect_told.specs.Shown.{MarkedRecordsAreRecords};
 ghost use Rattle.expect_told.specs.Turns.{TextsEndSo, TextsHaveOneTold};
 
 use line_rounds::one_outcome;
@@ -20,3 +21,8 @@ pub fn texts_have_one_told()
     // No effect at run time. The proof reads this law.
     texts_end_so();
 }
+
+/// What stands of a record below a test is a record: that with a mark before its line.
+pub fn marked_records_are_records()
+    ensures { MarkedRecordsAreRecords }
+{}

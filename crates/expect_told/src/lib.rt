@@ -4,6 +4,8 @@
 mod laws;
 mod said;
 mod senders;
+mod shown;
 
-pub use laws::{texts_end_so, texts_have_one_told};
+pub use laws::{marked_records_are_records, texts_end_so, texts_have_one_told};
 pub use said::{is_complete, reading_kept, refusal_said, say_round};
+pub use shown::{marked, push_marked, reading_shown, round_shown};

@@ -8,14 +8,16 @@ ghost use Rattle.text_core.specs.Cut.{WrittenText};
 ghost use Rattle.text_core.specs.Held.{held_bytes};
 ghost use Rattle.expect_judge.specs.Told.{kept_as};
 ghost use Rattle.expect_told.specs.Said.{ending_said, reading_said, reading_told};
-ghost use Rattle.expect_told.specs.Turns.{holders_said, round_told, sent_said};
+ghost use Rattle.expect_told.specs.Turns.{holders_said, sent_said};
 
 use crate::senders::{add_holders, add_senders};
+use crate::shown::reading_shown;
 use device_core::Device;
 use expect_judge::KeptRound;
 use line_frames::{Ending, Reading};
 use line_rounds::Outcome;
 use message_text::{reading_reported, reading_verdict};
+use record_core::Form;
 use room_event::EventError;
 use room_trace::error_word;
 use std::alloc::{AllocError, Global};
@@ -128,7 +130,7 @@ pub fn say_round(
     devices: &[Device<16>],
     outcome: &Outcome,
 ) -> Result<(), AllocError>
-    ensures { OnOk result (held_bytes said.new ≡ (round_told named devices.now outcome.now).reported) }
+    ensures { OnOk result (held_bytes said.new ≡ sent_said devices.now outcome.now ++ holders_said named devices.now) }
 {
     said.clear();
     match write_round(said, named, devices, outcome) {
@@ -147,13 +149,13 @@ pub fn refusal_said(refused: Option<EventError>) -> Option<&'static [u8]>
     }
 }
 
-/// A reading, as a round that is kept.
+/// A reading, as a round that is kept, shown in a form.
 ///
 /// # Errors
 ///
 /// Want of memory.
-pub fn reading_kept(alloc: Global, reading: &Reading) -> Result<KeptRound, AllocError>
-    ensures { IfOk result (λ round. kept_as round ≡ reading_told reading.now) }
+pub fn reading_kept(alloc: Global, form: Form, reading: &Reading) -> Result<KeptRound, AllocError>
+    ensures { IfOk result (λ round. kept_as round ≡ reading_told form reading.now) }
 {
     let mut said = Held::new(alloc);
     match write_read(&mut said, reading) {
@@ -162,10 +164,12 @@ pub fn reading_kept(alloc: Global, reading: &Reading) -> Result<KeptRound, Alloc
     }
     let mut reported = Vec::new(alloc);
     reported.extend_from_slice(said.bytes())?;
+    let shown = reading_shown(alloc, form, reading)?;
     Ok(KeptRound {
         begin: reading.begin,
         at: reading.at,
         is_complete: is_complete(reading.ending),
         reported,
+        shown,
     })
 }

@@ -16,7 +16,8 @@ use Rattle.room_run.proofs.Causality.{traces_are_causal}
 use Rattle.expect_text.specs.Line.{cut_script}
 use Rattle.expect_run.specs.Cuts.{IsCut, is_early}
 use Rattle.expect_run.proofs.Cuts.{cuts_are_read}
-use Rattle.expect_run.specs.States.{device_of}
+use Rattle.room_net.specs.State.{NetState}
+use Rattle.expect_run.specs.States.{device_of, state_said}
 use Rattle.judge_laws.specs.States.{agree_until, CutTracesAgree, IsStateLine, StatesAreOfRuns}
 use Rattle.judge_laws.proofs.Going.{same_course, same_plan}
 use Rattle.judge_laws.proofs.States.{said_is}
@@ -118,9 +119,9 @@ cut_is topology script time plan other course cut low a b =
 
 pub states_are_of_runs : StatesAreOfRuns
 states_are_of_runs topology plain text totals time device state low p s = record {
-  plan_is = same_plan p.plan s.run.plan (topology_of topology) p.accepted.plan_is s.run.accepted.plan_is;
-  course_is = cut_is topology plain time p.plan s.run.plan p.course s.run.course low p.accepted s.run.accepted;
-  line = subst (IsStateLine (device_of device s.last.net.devices)) (sym s.state_is) (said_is (device_of device s.last.net.devices));
+  plan_is = same_plan p.plan s.1.run.plan (topology_of topology) p.accepted.plan_is s.1.run.accepted.plan_is;
+  course_is = cut_is topology plain time p.plan s.1.run.plan p.course s.1.run.course low p.accepted s.1.run.accepted;
+  line = subst (IsStateLine (device_of device s.1.last.net.devices)) (sym (s.2 ∙ ap (λ (net : NetState). state_said (device_of device net.devices)) s.1.net_is)) (said_is (device_of device s.1.last.net.devices));
 }
 
 -- at an instant or later

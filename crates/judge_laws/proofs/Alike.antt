@@ -23,6 +23,7 @@ use Rattle.expect_judge.specs.Seen.{end_seen}
 use Rattle.expect_judge.specs.Told.{RoundLine}
 use Rattle.expect_judge.specs.declared.seen.TimeSpan.{TimeSpan}
 use Rattle.expect_told.specs.Said.{reading_said, reading_told}
+use Rattle.record_core.specs.declared.cell.Form.TheVariants.{Text}
 use Rattle.expect_told.specs.Turns.{round_told, rounds_of, sent_said}
 use Rattle.judge_laws.specs.Alike.{CapturesAreSeenAlike, asks_no_sender}
 use Rattle.judge_laws.specs.Told.{outcomes_in}
@@ -35,7 +36,7 @@ use Rattle.judge_laws.proofs.Going.{same_rounds, same_run}
 abbrev senders : List State → Outcome → List ℕ
 senders devices o = comma_list (map (name_at devices) o.survivors.items) ++ (codes " out " ++ comma_list (map (loser_text devices) o.losers.items))
 
-said_is : (devices : List State) (o : Outcome) → (round_told false devices o).reported ≡ reading_said o.reading ++ 32 ∷ (codes "by" ++ 32 ∷ senders devices o)
+said_is : (devices : List State) (o : Outcome) → (round_told Text false devices o).reported ≡ reading_said o.reading ++ 32 ∷ (codes "by" ++ 32 ∷ senders devices o)
 said_is devices o = append-nil (sent_said devices o)
 
 plain_names : (may_be : List ℕ → ℕ → Bool) (is_so : List ℕ → Bool) (pattern : List ℕ) → named_in pattern ≡ None → for_names may_be is_so pattern ≡ is_so pattern
@@ -46,13 +47,13 @@ meets_plainly : (pattern text : List ℕ) → named_in pattern ≡ None → meet
 unfolding meets
 meets_plainly pattern text none = plain_names (holds_in (last_word text)) (λ p. fits p text) pattern none
 
-same_meets : (pattern : List ℕ) (devices : List State) (o : Outcome) → named_in pattern ≡ None → asks_no_sender pattern ≡ true → meets pattern (reading_said o.reading) ≡ meets pattern (round_told false devices o).reported
+same_meets : (pattern : List ℕ) (devices : List State) (o : Outcome) → named_in pattern ≡ None → asks_no_sender pattern ≡ true → meets pattern (reading_said o.reading) ≡ meets pattern (round_told Text false devices o).reported
 same_meets pattern devices o none alone =
     meets_plainly pattern (reading_said o.reading) none ∙ sym (bare_fits (senders devices o) pattern (asks pattern alone) (reading_said o.reading)) ∙ ap (fits pattern) (sym (said_is devices o))
-    ∙ sym (meets_plainly pattern (round_told false devices o).reported none)
+    ∙ sym (meets_plainly pattern (round_told Text false devices o).reported none)
 
 end_same : (span : TimeSpan) (pattern : List ℕ) (devices : List State) (o : Outcome) → named_in pattern ≡ None → asks_no_sender pattern ≡ true
-    → end_seen span pattern (reading_told o.reading) ≡ end_seen span pattern (round_told false devices o)
+    → end_seen span pattern (reading_told Text o.reading) ≡ end_seen span pattern (round_told Text false devices o)
 end_same span pattern devices o none alone =
     ap (λ (m : Bool). if nat_le span.from o.reading.begin && nat_le o.reading.at span.to && m then Some o.reading.at else None) (same_meets pattern devices o none alone)
 
@@ -60,10 +61,10 @@ end_same span pattern devices o none alone =
 
 -- what is told of each reading
 abbrev listed_told : Listed → RoundLine
-listed_told x = reading_told (reading_as x)
+listed_told x = reading_told Text (reading_as x)
 
 ends_alike : (span : TimeSpan) (pattern : List ℕ) → named_in pattern ≡ None → asks_no_sender pattern ≡ true → (xs : List Happening)
-    → filter_map (end_seen span pattern) (map listed_told (map outcome_listed (flat_map outcomes_in xs))) ≡ filter_map (end_seen span pattern) (flat_map (rounds_of false) xs)
+    → filter_map (end_seen span pattern) (map listed_told (map outcome_listed (flat_map outcomes_in xs))) ≡ filter_map (end_seen span pattern) (flat_map (rounds_of Text false) xs)
 ends_alike span pattern none alone [] = refl
 ends_alike span pattern none alone (OfEvent at e before ∷ xs) = ends_alike span pattern none alone xs
 ends_alike span pattern none alone (OfRound begin before o ∷ xs) =

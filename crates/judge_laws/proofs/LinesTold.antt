@@ -27,13 +27,13 @@ use Rattle.room_run.specs.declared.run.Turn.TheVariants.{Stop, Apply, Round}
 use Rattle.room_run.specs.Happening.{Goes, Happening, HappensBy}
 use Rattle.room_run.specs.Run.{Config, first_time, start, turn_at}
 use Rattle.room_run.proofs.Advance.{round_begins}
-use Rattle.expect_run.specs.Report.{complete_word}
 use Rattle.expect_judge.specs.Told.{RoundLine}
 use Rattle.expect_told.specs.Said.{ending_said}
 use Rattle.expect_told.specs.Senders.{senders_text}
+use Rattle.record_core.specs.declared.cell.Form.TheVariants.{Text}
 use Rattle.expect_told.specs.Turns.{IsRunOf, round_told, rounds_of}
-use Rattle.judge_laws.specs.Told.{LinesReportRounds, line_again}
-use Rattle.judge_laws.proofs.TracesTold.{ending_again, ending_word, said_parts}
+use Rattle.judge_laws.specs.Told.{LinesReportRounds, complete_word, line_again}
+use Rattle.judge_laws.proofs.TracesTold.{ending_again, ending_word, round_same, said_parts}
 
 -- ---- words
 
@@ -100,6 +100,7 @@ record IsLined (r : RoundLine) : Type 0 where
   said : r.reported ≡ ending_said ending ++ rest
   begun : r.begin < 2 ^ 64
   over : r.at < 2 ^ 64
+  shown : r.shown ≡ codes "# " ++ line_again r
 
 -- its line without its begin and its end
 abbrev tail_of : RoundLine → List ℕ
@@ -140,11 +141,11 @@ one_round a b l k h =
     let begin : a.begin ≡ b.begin = one_number a.begin b.begin l.begun k.begun first.same in
     let at : a.at ≡ b.at = one_number a.at b.at l.over k.over second.same in
     let tail = same_tail a b l k second.left in
-    λ i. record { begin = begin i; at = at i; is_complete = tail.0 i; reported = tail.1 i }
+    λ i. record { begin = begin i; at = at i; is_complete = tail.0 i; reported = tail.1 i; shown = (l.shown ∙ ap (λ (t : List ℕ). codes "# " ++ t) h ∙ sym k.shown) i }
 
 -- ---- the rounds of a run
 
-told_lined : (devices : List State) (o : Outcome) → o.reading.begin < 2 ^ 64 → o.reading.at < 2 ^ 64 → IsLined (round_told false devices o)
+told_lined : (devices : List State) (o : Outcome) → o.reading.begin < 2 ^ 64 → o.reading.at < 2 ^ 64 → IsLined (round_told Text false devices o)
 told_lined devices o begun over = record {
   ending = o.reading.ending;
   rest = reported_text o.reading ++ (verdict_text o.reading ++ senders_text devices o);
@@ -152,23 +153,24 @@ told_lined devices o begun over = record {
   said = said_parts devices o;
   begun = begun;
   over = over;
+  shown = ap (λ (t : List ℕ). codes "# " ++ t) (sym (round_same devices o));
 }
 
-turn_lined : (end : ℕ) (turn : Turn) (c d : Config) (x : Happening) → turn_at end c ≡ turn → HappensBy turn c x d → end ≤ latest_event → All IsLined (rounds_of false x)
+turn_lined : (end : ℕ) (turn : Turn) (c d : Config) (x : Happening) → turn_at end c ≡ turn → HappensBy turn c x d → end ≤ latest_event → All IsLined (rounds_of Text false x)
 turn_lined end Stop c d x same h limit = absurd h
-turn_lined end (Apply at) c d x same h limit = subst (λ (y : Happening). All IsLined (rounds_of false y)) (sym h.is) (All-nil IsLined)
+turn_lined end (Apply at) c d x same h limit = subst (λ (y : Happening). All IsLined (rounds_of Text false y)) (sym h.is) (All-nil IsLined)
 turn_lined end (Round begin) c d x same h limit =
     let o = h.outcome in
     let soon : begin < end = (round_begins end c.net (first_time c.events) begin same).1 in
     let starts : o.reading.begin ≡ begin = h.next.round.starts in
     let at : o.reading.at ≤ begin + 444861 = omega (arith, h.next.round.ends, rounds_are_short.ends (line_of o.wave) begin) in
-    subst (λ (y : Happening). All IsLined (rounds_of false y)) (sym h.is)
-    (All-cons IsLined (round_told false c.net.devices o) [] (told_lined c.net.devices o (omega (arith, starts, soon, limit)) (omega (arith, at, soon, limit))) (All-nil IsLined))
+    subst (λ (y : Happening). All IsLined (rounds_of Text false y)) (sym h.is)
+    (All-cons IsLined (round_told Text false c.net.devices o) [] (told_lined c.net.devices o (omega (arith, starts, soon, limit)) (omega (arith, at, soon, limit))) (All-nil IsLined))
 
-turns_lined : (end : ℕ) (xs : List Happening) (c d : Config) → Goes end c xs d → end ≤ latest_event → All IsLined (flat_map (rounds_of false) xs)
+turns_lined : (end : ℕ) (xs : List Happening) (c d : Config) → Goes end c xs d → end ≤ latest_event → All IsLined (flat_map (rounds_of Text false) xs)
 turns_lined end [] c d h limit = All-nil IsLined
 turns_lined end (x ∷ xs) c d (mid, step, rest) limit =
-    All-append IsLined (rounds_of false x) (flat_map (rounds_of false) xs) (turn_lined end (turn_at end c) c mid x refl step limit) (turns_lined end xs mid d rest limit)
+    All-append IsLined (rounds_of Text false x) (flat_map (rounds_of Text false) xs) (turn_lined end (turn_at end c) c mid x refl step limit) (turns_lined end xs mid d rest limit)
 
 there : {X : Type 0} (P : X → Type 0) (xs : List X) (i : ℕ) (x : X) → All P xs → slice_get xs i ≡ Some x → P x
 there P [] i x h e = cc
@@ -178,10 +180,10 @@ there {X} P (y ∷ ys) zero x h e = subst P (same y x e) (h 0 y (omega arith))
     same a b k = cc
 there P (y ∷ ys) (suc i) x h e = there P ys i x (λ k z l. h (suc k) z (omega arith)) e
 
-all_lined : (topology plain : List ℕ) (xs : List Happening) (c : Config) → IsRunOf topology plain xs c → All IsLined (flat_map (rounds_of false) xs)
+all_lined : (topology plain : List ℕ) (xs : List Happening) (c : Config) → IsRunOf topology plain xs c → All IsLined (flat_map (rounds_of Text false) xs)
 all_lined topology plain xs c p =
     turns_lined p.course.end xs (start (first_net p.plan.tree p.course.pulses) p.course.events) c p.goes (scripts_are_sound p.plan.tree plain p.course p.accepted.course_is).limit
 
 pub lines_report_rounds : LinesReportRounds
 lines_report_rounds topology plain other course xs ys c d p q i j a b first second same =
-    one_round a b (there IsLined (flat_map (rounds_of false) xs) i a (all_lined topology plain xs c p) first) (there IsLined (flat_map (rounds_of false) ys) j b (all_lined other course ys d q) second) same
+    one_round a b (there IsLined (flat_map (rounds_of Text false) xs) i a (all_lined topology plain xs c p) first) (there IsLined (flat_map (rounds_of Text false) ys) j b (all_lined other course ys d q) second) same

@@ -39,6 +39,7 @@ use Rattle.expect_judge.specs.Seen.{end_seen}
 use Rattle.expect_judge.specs.Told.{RoundLine}
 use Rattle.expect_judge.specs.declared.seen.TimeSpan.{TimeSpan}
 use Rattle.expect_told.specs.Said.{ending_said, reading_said}
+use Rattle.record_core.specs.declared.cell.Form.TheVariants.{Text}
 use Rattle.expect_told.specs.Turns.{round_told, rounds_of}
 use Rattle.judge_laws.specs.Said.{ReadingsAreSaid, RefusedAreNeverSeen, RoundsAreSaid}
 use Rattle.judge_laws.proofs.Declared.{names_are_declared}
@@ -217,7 +218,7 @@ seats_many : (s : NetState) (begin : ℕ) (devices : List State) → length (map
 seats_many s begin [] = refl
 seats_many s begin (d ∷ devices) = let more = seats_many s begin devices in omega (arith, more)
 
-round_said : (names : List (List ℕ)) (begin : ℕ) (s : NetState) (o : Outcome) → IsRound (seats_of s begin) begin s.pulses o → names_of s.devices ≡ names → IsSaid (Run names) (round_told false s.devices o).reported
+round_said : (names : List (List ℕ)) (begin : ℕ) (s : NetState) (o : Outcome) → IsRound (seats_of s begin) begin s.pulses o → names_of s.devices ≡ names → IsSaid (Run names) (round_told Text false s.devices o).reported
 round_said names begin s o round h =
     let low : Line = line_of o.wave in
     let seats = seats_of s begin in
@@ -230,23 +231,23 @@ round_said names begin s o round h =
     subst (λ (said : List ℕ). IsSaid (Run names) said) (sym (said_parts s.devices o)) (heard_said (Run names) (run_places names) o.reading (tail_of s.devices o) (tail_is names s.devices o by out) heard)
 
 turn_said : (names : List (List ℕ)) (turn : Turn) (c d : Config) (x : Happening) → HappensBy turn c x d → names_of c.net.devices ≡ names
-    → (names_of d.net.devices ≡ names) × AreSaid names (rounds_of false x)
+    → (names_of d.net.devices ≡ names) × AreSaid names (rounds_of Text false x)
 turn_said names Stop c d x h same = absurd h
 turn_said names (Apply at) c d x h same = (
   ap (λ (k : Config). names_of k.net.devices) h.after ∙ names_applied at h.event.event c.net ∙ same,
-  subst (λ (y : Happening). AreSaid names (rounds_of false y)) (sym h.is) (none_said names),
+  subst (λ (y : Happening). AreSaid names (rounds_of Text false y)) (sym h.is) (none_said names),
 )
 turn_said names (Round begin) c d x h same = (
   ap (λ (s : NetState). names_of s.devices) h.next.after_is ∙ names_round c.net begin h.outcome ∙ same,
-  subst (λ (y : Happening). AreSaid names (rounds_of false y)) (sym h.is)
-      (All-cons (λ r. IsSaid (Run names) r.reported) (round_told false c.net.devices h.outcome) [] (round_said names begin c.net h.outcome h.next.round same) (none_said names)),
+  subst (λ (y : Happening). AreSaid names (rounds_of Text false y)) (sym h.is)
+      (All-cons (λ r. IsSaid (Run names) r.reported) (round_told Text false c.net.devices h.outcome) [] (round_said names begin c.net h.outcome h.next.round same) (none_said names)),
 )
 
-turns_said : (names : List (List ℕ)) (end : ℕ) (xs : List Happening) (c d : Config) → Goes end c xs d → names_of c.net.devices ≡ names → AreSaid names (flat_map (rounds_of false) xs)
+turns_said : (names : List (List ℕ)) (end : ℕ) (xs : List Happening) (c d : Config) → Goes end c xs d → names_of c.net.devices ≡ names → AreSaid names (flat_map (rounds_of Text false) xs)
 turns_said names end [] c d h same = none_said names
 turns_said names end (x ∷ xs) c d (mid, step, rest) same =
     let one = turn_said names (turn_at end c) c mid x step same in
-    All-append (λ r. IsSaid (Run names) r.reported) (rounds_of false x) (flat_map (rounds_of false) xs) one.1 (turns_said names end xs mid d rest one.0)
+    All-append (λ r. IsSaid (Run names) r.reported) (rounds_of Text false x) (flat_map (rounds_of Text false) xs) one.1 (turns_said names end xs mid d rest one.0)
 
 pub rounds_are_said : RoundsAreSaid
 rounds_are_said topology plain happened last p =
@@ -281,4 +282,4 @@ not_seen names pattern span (r ∷ rs) said h =
 
 pub refused_are_never_seen : RefusedAreNeverSeen
 refused_are_never_seen topology plain pattern happened last span p h =
-    not_seen (declared_of topology) pattern span (flat_map (rounds_of false) happened) (rounds_are_said topology plain happened last p) h
+    not_seen (declared_of topology) pattern span (flat_map (rounds_of Text false) happened) (rounds_are_said topology plain happened last p) h

@@ -21,11 +21,11 @@ use Rattle.room_run.specs.Happening.{Happening, text_of}
 use Rattle.room_run.specs.Happening.Happening.{OfEvent, OfRound}
 use Rattle.room_run.specs.Run.{end_reported, start, start_reported}
 use Rattle.room_run.specs.Turns.{RunsAreTold, TracesSay}
-use Rattle.expect_run.specs.Report.{complete_word}
 use Rattle.expect_told.specs.Said.{ending_said}
 use Rattle.expect_told.specs.Senders.{senders_text}
+use Rattle.record_core.specs.declared.cell.Form.TheVariants.{Text}
 use Rattle.expect_told.specs.Turns.{event_told, round_told, sent_said}
-use Rattle.judge_laws.specs.Told.{TracesAreTold, event_again, line_again, turn_again}
+use Rattle.judge_laws.specs.Told.{TracesAreTold, complete_word, event_again, line_again, turn_again}
 use Rattle.judge_laws.proofs.Going.{in_order, same_rounds, same_run}
 
 event_same : (at : ℕ) (e : TimedEvent) (fault : Option EventError) → event_again (event_told at e fault) ≡ event_line at e.line fault
@@ -36,7 +36,7 @@ event_same at e (Some error) = refl
 
 -- what is told of it, in parts
 pub said_parts : (devices : List State) (o : Outcome)
-    → (round_told false devices o).reported ≡ ending_said o.reading.ending ++ (reported_text o.reading ++ (verdict_text o.reading ++ senders_text devices o))
+    → (round_told Text false devices o).reported ≡ ending_said o.reading.ending ++ (reported_text o.reading ++ (verdict_text o.reading ++ senders_text devices o))
 said_parts devices o =
     let a = ending_said o.reading.ending in
     let b = reported_text o.reading in
@@ -103,7 +103,7 @@ line_is devices o =
     ∙ ap (λ e. decimal o.reading.begin ++ 32 ∷ (decimal o.reading.at ++ (e ++ after devices o))) (ending_spelled o.reading.ending)
     ∙ ap (λ l. decimal o.reading.begin ++ 32 ∷ (decimal o.reading.at ++ l)) (spaced (ending_word o.reading.ending) (after devices o))
 
-round_same : (devices : List State) (o : Outcome) → line_again (round_told false devices o) ≡ round_line devices o
+pub round_same : (devices : List State) (o : Outcome) → line_again (round_told Text false devices o) ≡ round_line devices o
 round_same devices o =
     let r = o.reading in
     let rest = reported_text r ++ (verdict_text r ++ senders_text devices o) in

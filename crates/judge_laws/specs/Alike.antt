@@ -25,6 +25,7 @@ use Rattle.expect_judge.specs.declared.judge.Judged.{Judged}
 use Rattle.expect_judge.specs.Seen.{ends_seen}
 use Rattle.expect_judge.specs.declared.seen.TimeSpan.{TimeSpan}
 use Rattle.expect_told.specs.Said.{reading_told}
+use Rattle.record_core.specs.declared.cell.Form.TheVariants.{Text}
 use Rattle.expect_told.specs.Turns.{IsRunOf, told_by}
 
 abbrev pub is_no_by : List ℕ → Bool
@@ -41,12 +42,12 @@ AreSeenAlike x y = (pattern : List ℕ) (span : TimeSpan) → named_in pattern �
 
 -- what is told of each reading of a capture, in order
 abbrev pub readings_told : Captured → List RoundLine
-readings_told c = map (λ x. reading_told (reading_as x)) (file_readings (as_file c))
+readings_told c = map (λ x. reading_told Text (reading_as x)) (file_readings (as_file c))
 
 -- So are the readings of the capture of a run, in any format, and the rounds of the run.
 abbrev pub CapturesAreSeenAlike : Type 0
 CapturesAreSeenAlike = (format : CaptureForm) (topology plain text : List ℕ) (totals : Totals) (happened : List Happening) (last : Config) → IsRunOf topology plain happened last → IsLineOf format topology plain text totals
-    → (c : Captured) × IsReadText format text c × AreSeenAlike (told_by false happened).rounds (readings_told c)
+    → (c : Captured) × IsReadText format text c × AreSeenAlike (told_by Text false happened).rounds (readings_told c)
 
 -- ---- whole files
 

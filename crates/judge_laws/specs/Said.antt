@@ -14,6 +14,7 @@ use Rattle.expect_text.specs.Senders.Judged.{Run, Capture}
 use Rattle.expect_judge.specs.Seen.{ends_seen}
 use Rattle.expect_judge.specs.declared.seen.TimeSpan.{TimeSpan}
 use Rattle.expect_told.specs.Said.{reading_said}
+use Rattle.record_core.specs.declared.cell.Form.TheVariants.{Text}
 use Rattle.expect_told.specs.Turns.{IsRunOf, told_by}
 
 -- The devices of a topology that is accepted are those that its lines declare, in their order: those by which patterns are judged.
@@ -24,7 +25,7 @@ NamesAreDeclared = (topology : List ℕ) (plan : Plan) → topology_of topology 
 -- order, those that did not go on with a slot from 1 to 160.
 abbrev pub RoundsAreSaid : Type 0
 RoundsAreSaid = (topology plain : List ℕ) (happened : List Happening) (last : Config) → IsRunOf topology plain happened last
-    → All (λ r. IsSaid (Run (names_of topology)) r.reported) (told_by false happened).rounds
+    → All (λ r. IsSaid (Run (names_of topology)) r.reported) (told_by Text false happened).rounds
 
 -- What each reading of a line says, cut at an instant, is such a text without senders.
 abbrev pub ReadingsAreSaid : Type 0
@@ -33,4 +34,4 @@ ReadingsAreSaid = (low : Line) (end : ℕ) → All (λ x. IsSaid Capture (readin
 -- No round of a run meets a pattern that is refused.
 abbrev pub RefusedAreNeverSeen : Type 0
 RefusedAreNeverSeen = (topology plain pattern : List ℕ) (happened : List Happening) (last : Config) (span : TimeSpan) → IsRunOf topology plain happened last
-    → is_meetable (Run (names_of topology)) pattern ≡ false → ends_seen (told_by false happened).rounds span pattern ≡ []
+    → is_meetable (Run (names_of topology)) pattern ≡ false → ends_seen (told_by Text false happened).rounds span pattern ≡ []

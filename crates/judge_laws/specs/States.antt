@@ -13,6 +13,7 @@ use Rattle.room_run.specs.Causal.{BeginsWith, before_reported}
 use Rattle.expect_text.specs.Line.{cut_script}
 use Rattle.expect_run.specs.Cuts.{IsCut, is_early}
 use Rattle.expect_run.specs.States.{IsStateAt, device_of}
+use Rattle.expect_run.specs.States.StateView.{Said}
 
 -- ---- runs that end earlier
 
@@ -23,14 +24,14 @@ IsStateLine (Some d) line = line ++ codes "\n" ≡ state_line d
 
 -- The state that a script speaks of, of a device at a time, is told by a run of the same topology: of the script's events before
 -- the time and all its pulses and pulls, which ends at the time. It is the device's state at the end of that run.
-pub record IsStateOfRun (topology plain text : List ℕ) (totals : Totals) (time : ℕ) (device state : List ℕ) (p : IsTraceOf topology plain text totals) (s : IsStateAt topology plain time device state) : Type 0 where
-  pub plan_is : s.run.plan ≡ p.plan
-  pub course_is : IsCut time p.course s.run.course
-  pub line : IsStateLine (device_of device s.last.net.devices) state
+pub record IsStateOfRun (topology plain text : List ℕ) (totals : Totals) (time : ℕ) (device state : List ℕ) (p : IsTraceOf topology plain text totals) (s : IsStateAt Said topology plain time device state) : Type 0 where
+  pub plan_is : s.1.run.plan ≡ p.plan
+  pub course_is : IsCut time p.course s.1.run.course
+  pub line : IsStateLine (device_of device s.1.last.net.devices) state
 
 abbrev pub StatesAreOfRuns : Type 0
 StatesAreOfRuns = (topology plain text : List ℕ) (totals : Totals) (time : ℕ) (device state : List ℕ) → time ≤ latest_event
-    → (p : IsTraceOf topology plain text totals) → (s : IsStateAt topology plain time device state) → IsStateOfRun topology plain text totals time device state p s
+    → (p : IsTraceOf topology plain text totals) → (s : IsStateAt Said topology plain time device state) → IsStateOfRun topology plain text totals time device state p s
 
 -- up to when that run is the whole one: up to the time, but a pin that only the end lets go may have gone low before
 abbrev pub agree_until : ℕ → Option ℕ → ℕ

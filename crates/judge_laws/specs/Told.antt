@@ -1,6 +1,6 @@
 -- What is told of a run is its trace (own): between what stands first and last in the trace, of each turn the line of what is told of it,
 -- and after an event the lines of the ports that come onto the wire by it.
-use Rattle.std.specs.Prelude.{◌≡◌, ℕ, false, List, [], ◌∷◌, ◌++◌, Option, Some, None, codes, slice_get}
+use Rattle.std.specs.Prelude.{◌≡◌, Bool, ℕ, true, false, List, [], ◌∷◌, ◌++◌, Option, Some, None, codes, slice_get}
 use Rattle.std.specs.Fmt.{decimal}
 use Rattle.std.specs.List.{concat, flat_map}
 use Rattle.line_rounds.specs.declared.Outcome.{Outcome}
@@ -17,8 +17,8 @@ use Rattle.room_run.specs.Happening.{Happening}
 use Rattle.room_run.specs.Happening.Happening.{OfEvent, OfRound}
 use Rattle.room_run.specs.OneRun.{rounds_of_trace}
 use Rattle.room_run.specs.Run.{Config, end_reported, start_reported}
-use Rattle.expect_run.specs.Report.{complete_word}
 use Rattle.expect_judge.specs.Told.{EventLine, RoundLine}
+use Rattle.record_core.specs.declared.cell.Form.TheVariants.{Text}
 use Rattle.expect_told.specs.Turns.{IsRunOf, event_told, round_told, told_by}
 
 -- ---- lines, by what is told
@@ -32,12 +32,16 @@ abbrev pub event_again : EventLine → List ℕ
 event_again e = decimal e.at ++ (codes " event " ++ (decimal e.line ++ outcome_again e.refused))
 
 -- of a round
+abbrev pub complete_word : Bool → List ℕ
+complete_word true = codes "complete "
+complete_word false = []
+
 abbrev pub line_again : RoundLine → List ℕ
 line_again r = concat (decimal r.begin ∷ codes " " ∷ decimal r.at ∷ codes " " ∷ complete_word r.is_complete ∷ r.reported ∷ codes "\n" ∷ [])
 
 abbrev pub turn_again : Option Edid → Happening → List ℕ
 turn_again edid (OfEvent at e before) = event_again (event_told at e (event_fault before e.event)) ++ port_lines at edid (is_on_wire before.tree) (net_after at e.event before).tree
-turn_again edid (OfRound begin before o) = line_again (round_told false before.devices o)
+turn_again edid (OfRound begin before o) = line_again (round_told Text false before.devices o)
 
 -- ---- what happens, turn by turn
 
@@ -64,7 +68,7 @@ TracesAreTold = (topology plain text : List ℕ) (totals : Totals) (happened : L
     → IsTraceTold topology plain text totals p happened last
 
 -- Two rounds, of one run or of two, whose lines in a trace are the same text are told as the same round: they began and ended
--- together, and what is said of them is the same.
+-- together, what is said of them is the same, and so is how they are shown as text.
 abbrev pub LinesReportRounds : Type 0
 LinesReportRounds = (topology plain other course : List ℕ) (xs ys : List Happening) (c d : Config) → IsRunOf topology plain xs c → IsRunOf other course ys d → (i j : ℕ) (a b : RoundLine)
-    → slice_get (told_by false xs).rounds i ≡ Some a → slice_get (told_by false ys).rounds j ≡ Some b → line_again a ≡ line_again b → a ≡ b
+    → slice_get (told_by Text false xs).rounds i ≡ Some a → slice_get (told_by Text false ys).rounds j ≡ Some b → line_again a ≡ line_again b → a ≡ b

@@ -1,5 +1,6 @@
 -- What is answered of a script with expectations (this profile's own).
 use Rattle.std.specs.Prelude.{◌≡◌, ◌≤◌, ◌<◌, ℕ, List, [], Some}
+use Rattle.record_core.specs.declared.cell.Form.TheVariants.{Text}
 use Rattle.expect_run.specs.Check.{IsCheckReported, IsChecked}
 use Rattle.expect_run.specs.declared.checking.CheckError.{CheckError}
 use Rattle.expect_run.specs.declared.checking.CheckError.TheVariants.{Emulate, Expect, Write, Memory as NoMemory}
@@ -35,12 +36,12 @@ counts_of tally = record { count = tally.count; failed = tally.failed }
 -- the report of the script is put into the room, and its tests are counted
 abbrev pub IsReportPut : List ℕ → List ℕ → List ℕ → List ℕ → TestCounts → Answer → Type 0
 IsReportPut topology script old new counts answer =
-    (text : List ℕ) × (tally : Tally) × IsChecked topology script (Some []) (Some text) tally × (counts ≡ counts_of tally) × IsPut text old new answer
+    (text : List ℕ) × (tally : Tally) × IsChecked Text topology script (Some []) (Some text) tally × (counts ≡ counts_of tally) × IsPut text old new answer
 
 -- there is no report, for the first cause, and nothing is put or counted
 abbrev pub IsCheckRefused : List ℕ → List ℕ → List ℕ → List ℕ → TestCounts → TestCounts → Answer → Type 0
 IsCheckRefused topology script old new before after answer =
-    (cause : CheckError) × IsCheckReported topology script cause × (answer ≡ check_answer cause) × (new ≡ old) × (after ≡ before)
+    (cause : CheckError) × IsCheckReported Text topology script cause × (answer ≡ check_answer cause) × (new ≡ old) × (after ≡ before)
 
 -- the one or the other, by its code
 abbrev pub AnswersCheck : List ℕ → List ℕ → List ℕ → List ℕ → TestCounts → TestCounts → Answer → Type 0

@@ -6,6 +6,7 @@ use crate::run::run_refused;
 use expect_run::{CheckError, Tally, check};
 use expect_text::ExpectCause;
 use library_answers::{Answer, Code, put, refused};
+use record_core::Form;
 use std::alloc::Global;
 use text_core::Held;
 
@@ -68,7 +69,7 @@ pub fn put_report(
     ensures { AnswersCheck topology.now script.now room.old room.new tests.old tests.new result }
 {
     let mut report = Held::new(alloc);
-    match check(alloc, topology, script, &mut report) {
+    match check(alloc, Form::Text, topology, script, &mut report) {
         Ok(tally) => {
             *tests = counts_of(tally);
             put(report.bytes(), room)

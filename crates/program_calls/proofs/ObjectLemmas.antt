@@ -1,39 +1,16 @@
--- Objects of lines, that are held or written while they come.
-use Rattle.std.proofs.Common.{◌≡◌, ◌++◌, ℕ, Bool, true, false, List, [], OnOk, Option, Result, Some, subst}
+-- Objects of the lines of a run.
+use Rattle.std.proofs.Common.{◌≡◌, ◌++◌, ℕ, Bool, true, false, List, [], OnOk, Option, Result}
 use Rattle.std.specs.Io.KnownBytes.{Appends}
 use Rattle.room_trace.specs.Room.{heads_in, room_if}
 use Rattle.room_run.specs.Emulate.{AreObjectsOf as AreRunObjects}
 use Rattle.room_run.specs.Objects.{AreOfRecords}
 use Rattle.room_run.proofs.ObjectLines.{objects_are_of_the_trace}
 use Rattle.room_run.specs.declared.run.Totals.{Totals}
-use Rattle.program_calls.specs.Done.{AreObjectsOf, AreRunDone, Writes, WritesLines, are_of_run}
+use Rattle.program_calls.specs.Done.{AreRunDone, Writes}
 use Rattle.program_input.specs.Parted.{IsRunInput}
 use Rattle.program_calls.proofs.ShownLemmas.{on_ok}
 use Rattle.cli_words.specs.declared.choice.CommandChoice.TheVariants.{Json}
-use Rattle.cli_words.specs.declared.choice.Objects.{Objects}
 use Rattle.cli_words.specs.declared.choice.Objects.TheVariants as of
-
--- what is held is what was put
-pub all_held : (old new : Option (List ℕ)) (bytes text : List ℕ) → old ≡ Some [] → new ≡ Some bytes → Appends old new text → bytes ≡ text
-all_held old new bytes text e f a = rw (e, f) at a
-
-clash : true ≡ false → ⊥
-clash k = cc
-
--- of lines that are not those of a run the input says nothing more
-any_input : (objects : Objects) (input lines text : List ℕ) → are_of_run objects ≡ false → AreObjectsOf objects [] lines text → AreObjectsOf objects input lines text
-any_input (of.Trace strict) input lines text e are = absurd (clash e)
-any_input (of.Room strict) input lines text e are = absurd (clash e)
-any_input (of.Test traced) input lines text e are = are
-any_input (of.CaptureTest form glitch) input lines text e are = are
-
-pub objects_done : (objects : Objects) (name input bytes text : List ℕ) (old new before after : Option (List ℕ)) → WritesLines objects name input old new → old ≡ Some [] → new ≡ Some bytes
-    → are_of_run objects ≡ false → AreObjectsOf objects [] bytes text → Appends before after text → Writes (Json objects) name input before after
-objects_done objects name input bytes text old new before after lines e f held are now = (
-  text,
-  (lines.0, lines.1, subst (λ (t : List ℕ). AreObjectsOf objects input t text) (all_held old new bytes lines.0 e f lines.2) (any_input objects input bytes text held are)),
-  now,
-)
 
 -- ---- of a run, while it runs
 

@@ -1,5 +1,5 @@
 -- What the program does for a choice, an input and what it writes (own).
-use Rattle.std.specs.Prelude.{◌≡◌, ℕ, Bool, true, false, if◌then◌else◌, ◌⊎◌, List, [], ◌∷◌, ◌++◌, Option, None, Some, Ok, MatchOption, codes}
+use Rattle.std.specs.Prelude.{◌≡◌, ℕ, Bool, true, false, List, [], ◌∷◌, ◌++◌, Option, None, Some, Ok, MatchOption}
 use Rattle.std.specs.List.{flat_map}
 use Rattle.std.specs.Io.KnownBytes.{Appends}
 use Rattle.message_hex.specs.Lines.{first_fault}
@@ -9,13 +9,12 @@ use Rattle.room_driven.specs.declared.wires.Wires.TheVariants as wires
 use Rattle.message_lay.specs.Text.{AreLinesRead, no_notes, pull_record}
 use Rattle.capture_forms.specs.declared.form.CaptureForm.{CaptureForm}
 use Rattle.message_meaning.specs.Records.{dis_text}
-use Rattle.json_report.specs.Object.{AreReportObjects}
-use Rattle.json_report.specs.declared.object.ReportKind.TheVariants as kinds
 use Rattle.room_run.specs.Emulate.{AreObjectsOf as AreRunObjects, IsLineOf, IsTraceOf}
 use Rattle.room_run.specs.Objects.{AreOfRecords}
 use Rattle.room_trace.specs.Room.{heads_in, room_if}
 use Rattle.room_run.specs.declared.run.Totals.{Totals}
 use Rattle.record_core.specs.declared.cell.Form.{Form}
+use Rattle.record_core.specs.declared.cell.Form.TheVariants as forms
 use Rattle.room_steps.specs.StepRun.{AreStepsOf}
 use Rattle.message_text.specs.FrameLines.{AreTextsOf, hex_line as frame_line, lines_of_frames}
 use Rattle.line_wave.specs.declared.Stretch.{Stretch}
@@ -66,12 +65,12 @@ pub record IsDrivenDone (of_wires : Wires) (input text : List ℕ) (totals : Tot
   pub parts : IsRunInput input topology script
   pub dump : IsDumpOf of_wires topology script text totals
 
--- this text is what is asked for of the test that the input spells
-pub record IsTestDone (view : TestView) (input text : List ℕ) : Type 0 where
+-- this text is what is asked for of the test that the input spells, in lines or in objects
+pub record IsTestDone (form : Form) (view : TestView) (input text : List ℕ) : Type 0 where
   pub topology : List ℕ
   pub script : List ℕ
   pub parts : IsRunInput input topology script
-  pub test : IsTestOf view topology script text
+  pub test : IsTestOf form view topology script text
 
 -- after the script and a line `steps` stand commands, whose steps these are, in a form
 pub record AreStepsDone (form : Form) (input text : List ℕ) : Type 0 where
@@ -95,23 +94,9 @@ abbrev pub report_view : Bool → TestView
 report_view false = Report
 report_view true = Traced
 
--- the lines of which there are objects
-abbrev pub AreLines : Objects → List ℕ → List ℕ → List ℕ → Type 0
-AreLines (of.Trace strict) name input text = (totals : Totals) × IsRunDone input text totals × (strict ≡ true → totals.refused ≡ 0)
-AreLines (of.Room strict) name input text = (totals : Totals) × IsRunDone input text totals × (strict ≡ true → totals.refused ≡ 0)
-AreLines (of.Test traced) name input text = IsTestDone (report_view traced) input text
-AreLines (of.CaptureTest form glitch) name input text = IsCaptureTest form name glitch input text
-
--- those of a run's trace, whose objects are written while it runs
-abbrev pub are_of_run : Objects → Bool
-are_of_run (of.Trace strict) = true
-are_of_run (of.Room strict) = true
-are_of_run (of.Test traced) = false
-are_of_run (of.CaptureTest form glitch) = false
-
--- they are written, and nothing else
-abbrev pub WritesLines : Objects → List ℕ → List ℕ → Option (List ℕ) → Option (List ℕ) → Type 0
-WritesLines objects name input old new = (text : List ℕ) × AreLines objects name input text × Appends old new text
+-- the lines of the trace of a run; where it is strict, each event was taken
+abbrev pub AreLines : Bool → List ℕ → List ℕ → Type 0
+AreLines strict input text = (totals : Totals) × IsRunDone input text totals × (strict ≡ true → totals.refused ≡ 0)
 
 -- a text is the objects of the run that the input spells, with those of the room before them or without, and their records are those of
 -- these lines of its trace
@@ -125,23 +110,19 @@ pub record AreRunDone (with_room : Bool) (input lines text : List ℕ) : Type 0 
   pub records : AreOfRecords lines of_lines
   pub whole : text ≡ heads_in (room_if with_room topology script) ++ of_lines
 
--- a text is the objects of these lines
+-- a text is the objects that are asked for: those of lines of a trace, or of a report
 abbrev pub AreObjectsOf : Objects → List ℕ → List ℕ → List ℕ → Type 0
-AreObjectsOf (of.Trace strict) input lines text = AreRunDone false input lines text
-AreObjectsOf (of.Room strict) input lines text = AreRunDone true input lines text
-AreObjectsOf (of.Test traced) input lines text = AreReportObjects (report_kind lines) (lines_of lines) text
-AreObjectsOf (of.CaptureTest form glitch) input lines text = AreReportObjects kinds.Expectations (lines_of lines) text
-
--- they are written, and nothing else
-abbrev pub WritesObjects : Objects → List ℕ → List ℕ → Option (List ℕ) → Option (List ℕ) → Type 0
-WritesObjects objects input lines old new = (text : List ℕ) × AreObjectsOf objects input lines text × Appends old new text
+AreObjectsOf (of.Trace strict) name input text = (lines : List ℕ) × AreLines strict input lines × AreRunDone false input lines text
+AreObjectsOf (of.Room strict) name input text = (lines : List ℕ) × AreLines strict input lines × AreRunDone true input lines text
+AreObjectsOf (of.Test traced) name input text = IsTestDone forms.Json (report_view traced) input text
+AreObjectsOf (of.CaptureTest form glitch) name input text = IsCaptureTest forms.Json form name glitch input text
 
 -- The text that a choice makes of an input; of a capture, of the wire of a name. A strict run is one whose events were all
 -- taken.
 abbrev pub IsDone : CommandChoice → List ℕ → List ℕ → List ℕ → Type 0
 IsDone (Run listing strict) name input text = (totals : Totals) × IsListed listing input text totals × (strict ≡ true → totals.refused ≡ 0)
-IsDone (Check view) name input text = IsTestDone view input text
-IsDone (CheckCapture form glitch) name input text = IsCaptureTest form name glitch input text
+IsDone (Check view) name input text = IsTestDone forms.Text view input text
+IsDone (CheckCapture form glitch) name input text = IsCaptureTest forms.Text form name glitch input text
 IsDone (Step form) name input text = AreStepsDone form input text
 IsDone (Live json) name input text = IsLiveDone (form_by json) input text
 IsDone Asm name input text = (frames : List (List ℕ)) × AreTextsOf (lines_of_frames (lines_of input)) frames × (text ≡ flat_map frame_line frames)
@@ -151,7 +132,7 @@ IsDone (Mon mon) name input text =
     IsShown mon.written mon.folded (form_of mon.form input) name mon.inverted mon.glitch mon.margin (report_of mon.report (form_of mon.form input)) input text
 IsDone (Follow choice) name input text = IsReported choice name input text
 IsDone (CapturedLine form inverted glitch) name input text = AreEdges (form_of form input) name inverted glitch input text
-IsDone (Json objects) name input text = (lines : List ℕ) × AreLines objects name input lines × AreObjectsOf objects input lines text
+IsDone (Json objects) name input text = AreObjectsOf objects name input text
 IsDone (Edid source reading view) name input text = IsMade (told source input) reading view input text
 
 -- the choices whose lines are answered as they come
@@ -159,6 +140,10 @@ abbrev pub is_line_by_line : CommandChoice → Bool
 is_line_by_line (Live json) = true
 is_line_by_line (Follow choice) = true
 is_line_by_line choice = false
+
+-- what is asked for of a test is written, and nothing else
+abbrev pub WritesTestOf : Form → TestView → List ℕ → Option (List ℕ) → Option (List ℕ) → Type 0
+WritesTestOf form view input old new = (text : List ℕ) × IsTestDone form view input text × Appends old new text
 
 -- a choice is done for an input: its text is written, and nothing else
 abbrev pub Writes : CommandChoice → List ℕ → List ℕ → Option (List ℕ) → Option (List ℕ) → Type 0
@@ -186,7 +171,7 @@ IsHelp old new = (text : List ℕ) × Appends old new text
 
 -- A choice is done of several files: a report of the report of each, or what is made of them one after the other.
 abbrev pub AreServedTogether : Bool → CommandChoice → List ℕ → List (List ℕ) → (List ℕ → Option (List ℕ)) → Option (List ℕ) → Option (List ℕ) → Type 0
-AreServedTogether true choice name files held old new = WritesReports (IsDone choice name) held files old new
+AreServedTogether true choice name files held old new = WritesReports (report_kind choice) (IsDone choice name) held files old new
 AreServedTogether false choice name files held old new = IsServed (known_joined held files) old new choice name
 
 abbrev pub IsServedOfSeveral : CommandChoice → List ℕ → List (List ℕ) → (List ℕ → Option (List ℕ)) → Option (List ℕ) → Option (List ℕ) → Type 0

@@ -1,13 +1,19 @@
 //! What is reported of a test: whether a run is as the expectations of its script have it.
-ghost use Rattle.std.specs.Prelude.{◌≡◌, ◌++◌, true, OnOk, IfOk};
-ghost use Rattle.program_calls.specs.Tests.{AreRemarksOf, WritesPassed, WritesTest, remark_line, trace_remarks};
+ghost use Rattle.std.specs.Prelude.{◌≡◌, ◌++◌, true, codes, OnOk, IfOk};
+ghost use Rattle.record_core.specs.Records.{record_text};
+ghost use Rattle.record_core.specs.declared.cell.Form.TheVariants.{Text, Json};
+ghost use Rattle.program_calls.specs.Tests.{AreRemarksOf, WritesPassed, WritesTest, head_cells, trace_remark, trace_remarks};
 
 use crate::fault::ProgramFault;
 use cli_words::TestView;
+use expect_remarks::append_record;
 use expect_run::{CheckError, Tally, check};
 use expect_sweep::{ProgressHearer, SilentProgress, SweepError, sweep};
 use expect_text::{first_fault, plain_script};
+use expect_told::push_marked;
+use record_core::{Form, Value, cells};
 use room_run::emulate::{EmulateError, emulate};
+use room_run::objects::emulate_objects;
 use std::alloc::{AllocError, Global};
 use text_core::{Held, Piece, Sink, first_line, put_all, write_pieces};
 
@@ -36,13 +42,14 @@ fn held_throughout(holds: bool) -> Result<(), ProgramFault>
 #[inline(never)]
 fn write_report<W: Sink>(
     alloc: Global,
+    form: Form,
     topology: &[u8],
     script: &[u8],
     out: &mut W,
 ) -> Result<(), ProgramFault>
-    ensures { OnOk result (WritesPassed topology.now script.now (W.contents out.old) (W.contents out.new)) }
+    ensures { OnOk result (WritesPassed form topology.now script.now (W.contents out.old) (W.contents out.new)) }
 {
-    let tally = check(alloc, topology, script, out)?;
+    let tally = check(alloc, form, topology, script, out)?;
     passed(tally)
 }
 
@@ -50,40 +57,56 @@ fn write_report<W: Sink>(
 #[inline(never)]
 fn write_tests<W: Sink, H: ProgressHearer>(
     alloc: Global,
+    form: Form,
     topology: &[u8],
     script: &[u8],
     out: &mut W,
     hearer: &mut H,
 ) -> Result<(), ProgramFault>
-    ensures { OnOk result (WritesTest TestView.Report topology.now script.now (W.contents out.old) (W.contents out.new)) }
+    ensures { OnOk result (WritesTest form TestView.Report topology.now script.now (W.contents out.old) (W.contents out.new)) }
 {
-    match sweep(alloc, topology, script, out, hearer) {
+    match sweep(alloc, form, topology, script, out, hearer) {
         Ok(holds) => held_throughout(holds),
         Err(error) => match error {
-            SweepError::NoRange => write_report(alloc, topology, script, out),
+            SweepError::NoRange => write_report(alloc, form, topology, script, out),
             error => Err(ProgramFault::from(error)),
         },
     }
 }
 
-// Appends a line of a trace as a remark.
-fn push_remark(text: &mut Vec<u8>, line: &[u8]) -> Result<(), AllocError>
-    ensures { OnOk result (text.new.items ≡ text.old.items ++ remark_line line.now) }
+// The line before a trace, or its object.
+fn head_of(alloc: Global, form: Form) -> Result<Vec<u8>, AllocError>
+    ensures { IfOk result (λ text. text.items ≡ record_text form (codes "trace") head_cells) }
 {
-    text.extend_from_slice(b"# ")?;
-    text.extend_from_slice(line)?;
+    let mut held = Held::new(alloc);
+    append_record(
+        &mut held,
+        form,
+        "trace",
+        &cells![line("# trace", Value::Nothing)],
+    )?;
+    let mut text = Vec::new(alloc);
+    text.extend_from_slice(held.bytes())?;
+    Ok(text)
+}
+
+// Appends a line of a trace as a remark, or its object.
+fn push_remark(text: &mut Vec<u8>, form: Form, line: &[u8]) -> Result<(), AllocError>
+    ensures { OnOk result (text.new.items ≡ text.old.items ++ trace_remark form line.now) }
+{
+    push_marked(text, form, line)?;
     text.push(b'\n')?;
     Ok(())
 }
 
-// A trace as remarks.
-fn trace_remarks(alloc: Global, trace: &[u8]) -> Result<Vec<u8>, AllocError>
-    ensures { IfOk result (λ text. text.items ≡ trace_remarks trace.now) }
+// A trace as remarks, or the objects of these.
+fn trace_remarks(alloc: Global, form: Form, trace: &[u8]) -> Result<Vec<u8>, AllocError>
+    ensures { IfOk result (λ text. text.items ≡ trace_remarks form trace.now) }
 {
-    let mut text = b"# trace\n".to_vec(alloc)?;
+    let mut text = head_of(alloc, form)?;
     let mut rest = trace;
     'lines: while let Some((line, after)) = first_line(rest) {
-        push_remark(&mut text, line)?;
+        push_remark(&mut text, form, line)?;
         rest = after;
     }
     Ok(text)
@@ -91,8 +114,8 @@ fn trace_remarks(alloc: Global, trace: &[u8]) -> Result<Vec<u8>, AllocError>
 
 // Runs the script without labels and expectations on the topology, and returns its trace as remarks.
 #[inline(never)]
-fn remarks_of(alloc: Global, topology: &[u8], script: &[u8]) -> Result<Vec<u8>, ProgramFault>
-    ensures { IfOk result (λ text. AreRemarksOf topology.now script.now text.items) }
+fn line_remarks_of(alloc: Global, topology: &[u8], script: &[u8]) -> Result<Vec<u8>, ProgramFault>
+    ensures { IfOk result (λ text. AreRemarksOf Text topology.now script.now text.items) }
 {
     let plain = plain_script(alloc, script)?;
     let mut trace = Held::new(alloc);
@@ -101,21 +124,52 @@ fn remarks_of(alloc: Global, topology: &[u8], script: &[u8]) -> Result<Vec<u8>, 
         Err(EmulateError::Write(_)) => return Err(ProgramFault::Memory(AllocError)),
         Err(error) => return Err(ProgramFault::Emulate(error)),
     }
-    Ok(trace_remarks(alloc, trace.bytes())?)
+    Ok(trace_remarks(alloc, Form::Text, trace.bytes())?)
+}
+
+// The same, and returns the objects of these remarks.
+#[inline(never)]
+fn object_remarks_of(alloc: Global, topology: &[u8], script: &[u8]) -> Result<Vec<u8>, ProgramFault>
+    ensures { IfOk result (λ text. AreRemarksOf Json topology.now script.now text.items) }
+{
+    let plain = plain_script(alloc, script)?;
+    let mut objects = Held::new(alloc);
+    match emulate_objects(alloc, topology, &plain, false, &mut objects) {
+        Ok(_) => {}
+        Err(EmulateError::Write(_)) => return Err(ProgramFault::Memory(AllocError)),
+        Err(error) => return Err(ProgramFault::Emulate(error)),
+    }
+    Ok(trace_remarks(alloc, Form::Json, objects.bytes())?)
+}
+
+// The trace of the run as remarks, or the objects of these.
+fn remarks_of(
+    alloc: Global,
+    form: Form,
+    topology: &[u8],
+    script: &[u8],
+) -> Result<Vec<u8>, ProgramFault>
+    ensures { IfOk result (λ text. AreRemarksOf form topology.now script.now text.items) }
+{
+    match form {
+        Form::Text => line_remarks_of(alloc, topology, script),
+        Form::Json => object_remarks_of(alloc, topology, script),
+    }
 }
 
 // Writes the report, and after it the trace.
 #[inline(never)]
 fn write_traced<W: Sink>(
     alloc: Global,
+    form: Form,
     topology: &[u8],
     script: &[u8],
     out: &mut W,
 ) -> Result<(), ProgramFault>
-    ensures { OnOk result (WritesTest TestView.Traced topology.now script.now (W.contents out.old) (W.contents out.new)) }
+    ensures { OnOk result (WritesTest form TestView.Traced topology.now script.now (W.contents out.old) (W.contents out.new)) }
 {
-    let remarks = remarks_of(alloc, topology, script)?;
-    let tally = check(alloc, topology, script, out)?;
+    let remarks = remarks_of(alloc, form, topology, script)?;
+    let tally = check(alloc, form, topology, script, out)?;
     put_all(out, &remarks)?;
     passed(tally)
 }
@@ -128,7 +182,7 @@ fn write_plain<W: Sink>(
     script: &[u8],
     out: &mut W,
 ) -> Result<(), ProgramFault>
-    ensures { OnOk result (WritesTest TestView.Plain topology.now script.now (W.contents out.old) (W.contents out.new)) }
+    ensures { OnOk result (WritesTest Text TestView.Plain topology.now script.now (W.contents out.old) (W.contents out.new)) }
 {
     let fault = first_fault(alloc, topology, script)?;
     match fault {
@@ -151,18 +205,19 @@ fn write_plain<W: Sink>(
 /// hearer hears how far a sweep is.
 pub fn write_test<W: Sink, H: ProgressHearer>(
     alloc: Global,
+    form: Form,
     view: TestView,
     topology: &[u8],
     script: &[u8],
     out: &mut W,
     hearer: &mut H,
 ) -> Result<(), ProgramFault>
-    ensures { OnOk result (WritesTest view topology.now script.now (W.contents out.old) (W.contents out.new)) }
+    ensures { OnOk result (WritesTest form view topology.now script.now (W.contents out.old) (W.contents out.new)) }
 {
     match view {
-        TestView::Report => write_tests(alloc, topology, script, out, &mut SilentProgress),
-        TestView::Progress => write_tests(alloc, topology, script, out, hearer),
-        TestView::Traced => write_traced(alloc, topology, script, out),
+        TestView::Report => write_tests(alloc, form, topology, script, out, &mut SilentProgress),
+        TestView::Progress => write_tests(alloc, form, topology, script, out, hearer),
+        TestView::Traced => write_traced(alloc, form, topology, script, out),
         TestView::Plain => write_plain(alloc, topology, script, out),
     }
 }

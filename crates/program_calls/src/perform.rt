@@ -128,9 +128,9 @@ pub fn perform<W: Sink, H: ProgressHearer>(
             Listing::Drives => run_to_drives(alloc, Wires::Plain, strict, input, out),
             Listing::Named => run_to_drives(alloc, Wires::Named, strict, input, out),
         },
-        CommandChoice::Check(view) => test(alloc, view, input, out, hearer),
+        CommandChoice::Check(view) => test(alloc, Form::Text, view, input, out, hearer),
         CommandChoice::CheckCapture { form, glitch } => {
-            test_capture(alloc, form, signal, glitch, input, out)
+            test_capture(alloc, Form::Text, form, signal, glitch, input, out)
         }
         CommandChoice::Step { form } => step(alloc, form, input, out),
         CommandChoice::Live { .. } | CommandChoice::Follow(_) => unreachable!(),

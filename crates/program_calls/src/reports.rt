@@ -7,18 +7,18 @@ ghost use Rattle.text_core.specs.Lines.{lines_of};
 ghost use Rattle.cli_words.specs.MonFlags.{signal_in};
 ghost use Rattle.program_captures.specs.Captures.{name_of};
 ghost use Rattle.program_calls.specs.Done.{IsDone, is_line_by_line};
-ghost use Rattle.program_calls.specs.Reports.{WritesNested, WritesNestedFile, WritesNestedInput, WritesReports, nested_line, nested_text, plan_line, result_line};
+ghost use Rattle.program_calls.specs.Reports.{WritesNested, WritesNestedFile, WritesNestedInput, WritesReports, is_swept, nested_line, nested_text, plan_line, report_kind, result_line};
 ghost use Rattle.program_calls.specs.Tests.{remark_line};
 
 use crate::fault::ProgramFault;
 use crate::files::read_file;
-use crate::objects::report_kind;
 use crate::perform::perform;
 use crate::program::{Call, ProgramEnd, signal_of};
 use crate::progress::ProgressLines;
 use crate::said::{remark, report};
 use crate::status::write_fault;
-use json_report::ReportKind;
+use cli_words::CommandChoice;
+use expect_sweep::has_range;
 use program_input::{Opens, limit_of};
 use std::alloc::AllocError;
 use text_core::{
@@ -31,6 +31,36 @@ const VERSION: &[u8] = b"TAP version 13";
 
 /// That of the report of several.
 const NESTED_VERSION: &[u8] = b"TAP version 14\n";
+
+/// What the lines of a report are.
+#[derive(Clone, Copy, Debug)]
+pub(crate) enum ReportKind {
+    /// Tests.
+    Expectations,
+    /// Stretches of a sweep.
+    Sweep,
+}
+
+// Whether the report of an input is that of a sweep.
+fn is_swept(choice: CommandChoice, input: &[u8]) -> bool
+    ensures { result ≡ is_swept choice input.now }
+{
+    match choice {
+        CommandChoice::Check(_) => has_range(input),
+        _ => false,
+    }
+}
+
+// What the lines of the report of an input are. Where there is none, no test is named.
+fn report_kind(choice: CommandChoice, input: &[u8], report: &[u8]) -> ReportKind
+    ensures { result ≡ report_kind choice input.now report.now }
+{
+    if report.is_empty() || is_swept(choice, input) {
+        ReportKind::Sweep
+    } else {
+        ReportKind::Expectations
+    }
+}
 
 // The lines of a report as those of a subtest.
 #[derive(Clone, Copy)]
@@ -161,14 +191,19 @@ impl Call<'_> {
         err: &mut E,
     ) -> Result<u8, WriteFault>
         requires { is_line_by_line self.asked.choice ≡ false }
-        ensures { IfOk result (λ status. status ≡ 0 → WritesNestedInput (IsDone self.entry.asked.choice (name_of (signal_in (map string_bytes self.entry.words.now)))) input.now number name.now (W.contents out.old) (W.contents out.new)) }
+        ensures { IfOk result (λ status. status ≡ 0 → WritesNestedInput (report_kind self.entry.asked.choice) (IsDone self.entry.asked.choice (name_of (signal_in (map string_bytes self.entry.words.now)))) input.now number name.now (W.contents out.old) (W.contents out.new)) }
     {
         let Call { alloc, asked, .. } = self;
         let mut held = Held::new(alloc);
         let mut progress = ProgressLines { alloc, err };
         let signal = signal_of(self.words);
         let done = perform(alloc, asked.choice, signal, input, &mut held, &mut progress);
-        write_nested(report_kind(held.bytes()), name, held.bytes(), out)?;
+        write_nested(
+            report_kind(asked.choice, input, held.bytes()),
+            name,
+            held.bytes(),
+            out,
+        )?;
         write_result(done.is_ok(), number, name, out)?;
         match done {
             Ok(told) => {
@@ -193,7 +228,7 @@ impl Call<'_> {
         err: &mut E,
     ) -> Result<u8, WriteFault>
         requires { is_line_by_line self.asked.choice ≡ false }
-        ensures { IfOk result (λ status. status ≡ 0 → WritesNestedFile (IsDone self.entry.asked.choice (name_of (signal_in (map string_bytes self.entry.words.now)))) (F.held files.now name.now) number name.now (W.contents out.old) (W.contents out.new)) }
+        ensures { IfOk result (λ status. status ≡ 0 → WritesNestedFile (report_kind self.entry.asked.choice) (IsDone self.entry.asked.choice (name_of (signal_in (map string_bytes self.entry.words.now)))) (F.held files.now name.now) number name.now (W.contents out.old) (W.contents out.new)) }
     {
         match read_file(self.alloc, limit_of(self.asked.choice), files, name) {
             Ok(input) => self.report_input(&input, number, name, out, err),
@@ -214,7 +249,7 @@ impl Call<'_> {
         err: &mut E,
     ) -> Result<u8, WriteFault>
         requires { is_line_by_line self.asked.choice ≡ false }
-        ensures { IfOk result (λ status. status ≡ 0 → WritesNested (IsDone self.entry.asked.choice (name_of (signal_in (map string_bytes self.entry.words.now)))) (F.held files.now) count (map string_bytes names.now) (W.contents out.old) (W.contents out.new)) }
+        ensures { IfOk result (λ status. status ≡ 0 → WritesNested (report_kind self.entry.asked.choice) (IsDone self.entry.asked.choice (name_of (signal_in (map string_bytes self.entry.words.now)))) (F.held files.now) count (map string_bytes names.now) (W.contents out.old) (W.contents out.new)) }
     {
         match names {
             [] => Ok(0),
@@ -236,7 +271,7 @@ impl Call<'_> {
         err: &mut E,
     ) -> Result<u8, WriteFault>
         requires { is_line_by_line self.asked.choice ≡ false }
-        ensures { IfOk result (λ status. status ≡ 0 → WritesReports (IsDone self.entry.asked.choice (name_of (signal_in (map string_bytes self.entry.words.now)))) (F.held files.now) (map string_bytes names.now) (W.contents out.old) (W.contents out.new)) }
+        ensures { IfOk result (λ status. status ≡ 0 → WritesReports (report_kind self.entry.asked.choice) (IsDone self.entry.asked.choice (name_of (signal_in (map string_bytes self.entry.words.now)))) (F.held files.now) (map string_bytes names.now) (W.contents out.old) (W.contents out.new)) }
     {
         put_all(out, NESTED_VERSION)?;
         let status = self.report_each(files, names.len(), names, out, err)?;
@@ -253,7 +288,7 @@ impl Call<'_> {
         err: &mut E,
     ) -> u8
         requires { is_line_by_line self.asked.choice ≡ false }
-        ensures { result ≡ 0 → WritesReports (IsDone self.entry.asked.choice (name_of (signal_in (map string_bytes self.entry.words.now)))) (F.held files.now) (map string_bytes names.now) (⟦<Buffered<W> as Sink>⟧.contents out.old) (W.contents (below out.new)) }
+        ensures { result ≡ 0 → WritesReports (report_kind self.entry.asked.choice) (IsDone self.entry.asked.choice (name_of (signal_in (map string_bytes self.entry.words.now)))) (F.held files.now) (map string_bytes names.now) (⟦<Buffered<W> as Sink>⟧.contents out.old) (W.contents (below out.new)) }
     {
         let done = self.report_files(files, names, out, err);
         match out.flush() {
@@ -274,7 +309,7 @@ impl Call<'_> {
         err: &mut E,
     ) -> ProgramEnd<W>
         requires { is_line_by_line self.asked.choice ≡ false }
-        ensures { result.status ≡ 0 → WritesReports (IsDone self.entry.asked.choice (name_of (signal_in (map string_bytes self.entry.words.now)))) (F.held files.now) (map string_bytes names.now) (W.contents out) (W.contents result.out) }
+        ensures { result.status ≡ 0 → WritesReports (report_kind self.entry.asked.choice) (IsDone self.entry.asked.choice (name_of (signal_in (map string_bytes self.entry.words.now)))) (F.held files.now) (map string_bytes names.now) (W.contents out) (W.contents result.out) }
     {
         let mut out = Buffered::new(out);
         let status = self.hand_on_reports(files, names, &mut out, err);

@@ -9,8 +9,8 @@ use Rattle.expect_judge.proofs.judge.judged_by.Given as goal
 -- what is found of the lines above, and then of those that are left
 abbrev pub invariant-lines : goal.invariant-lines
 invariant-lines l = record {
-  same : map finding_as l.found.items ++ findings_left l.labels.script.now (told_as l.index.told) (λ number. get nat_eq l.instants number) l.number (lines_of l.rest) (map (λ state. state.items) l.left)
-      ≡ findings_of l.labels.script.now (told_as l.index.told) (states_for (lines_of l.labels.script.now) (map (λ state. state.items) l.states));
+  same : map finding_as l.found.items ++ findings_left l.labels.script.now (told_as l.index.told) (λ number. get nat_eq l.instants number) l.number (lines_of l.rest) (map (λ state. state.items) l.left) (map (λ text. text.items) l.texts_left)
+      ≡ findings_of l.labels.script.now (told_as l.index.told) (states_for (lines_of l.labels.script.now) (map (λ state. state.items) l.states)) (states_for (lines_of l.labels.script.now) (map (λ text. text.items) l.texts));
   room : l.number + length l.rest ≤ length l.labels.script.now + 1;
 }
 

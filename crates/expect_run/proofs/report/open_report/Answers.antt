@@ -6,5 +6,5 @@ use Rattle.expect_run.proofs.report.open_report.Goals as goal
 
 pub returns : goal.returns
 returns c =
-    tests_are c.args.script.now c.in_ok-labels.labels.script.now (told_as c.args.told.now) (map (λ state. state.items) c.args.states.now) c.in_ok-found.found.items c.deref.result.now
+    tests_are c.args.form c.args.script.now c.in_ok-labels.labels.script.now (told_as c.args.told.now) (map (λ state. state.items) c.args.states.now) (map (λ text. text.items) c.args.texts.now) c.in_ok-found.found.items c.deref.result.now
     (report_as c.in_ok-draft.draft) c.in_ok-labels.ensures c.in_ok-found.ensures c.deref.ensures.value c.in_ok-draft.ensures

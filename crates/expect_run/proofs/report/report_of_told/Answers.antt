@@ -1,20 +1,25 @@
 use Rattle.std.proofs.Common.{◌≡◌, map, refl, ap, ◌∙◌}
 use Rattle.text_core.specs.Lines.{lines_of}
-use Rattle.expect_judge.specs.Judged.{states_for}
+use Rattle.expect_judge.specs.Judged.{findings_of, states_for}
 use Rattle.expect_judge.specs.Told.{Told, event_as, kept_as, round_as}
 use Rattle.expect_run.specs.Report.{report, report_as}
 use Rattle.expect_run.specs.Sifted.{told_kept}
+use Rattle.expect_run.specs.States.{said_in, shown_in}
 use Rattle.expect_run.proofs.Found.{report_is}
 use Rattle.expect_run.proofs.report.report_of_told.Goals as goal
 
 pub returns : goal.returns
 returns c =
     let script = c.args.labels.now.script.now in
-    let states = map (λ state. state.items) c.args.states.now in
+    let states = said_in c.args.states.now in
+    let texts = shown_in c.args.states.now in
     let lent : Told = record { rounds = map round_as c.deref-2.result.now; events = map event_as c.deref-3.result.now } in
     let same : lent ≡ told_kept c.args.kept.now = λ i. record {
       rounds = (ap (map round_as) c.deref-2.ensures.value ∙ c.in_ok-rounds.ensures ∙ ap (map kept_as) c.deref.ensures.value) i;
       events = (ap (map event_as) c.deref-3.ensures.value) i;
     } in
-    report_is script script lent states c.in_ok-found.found.items c.deref-4.result.now (report_as c.in_ok-draft.draft) refl c.in_ok-found.ensures c.deref-4.ensures.value c.in_ok-draft.ensures
-    ∙ ap (λ (told : Told). report script told (states_for (lines_of script) states)) same
+    let found = c.in_ok-found.ensures
+    ∙ ap (λ ss. findings_of script lent (states_for (lines_of script) (map (λ text. text.items) ss)) (states_for (lines_of script) (map (λ text. text.items) c.deref-5.result.now))) c.deref-4.ensures.value
+    ∙ ap (λ ss. findings_of script lent (states_for (lines_of script) states) (states_for (lines_of script) (map (λ text. text.items) ss))) c.deref-5.ensures.value in
+    report_is c.args.form script script lent states texts c.in_ok-found.found.items c.deref-6.result.now (report_as c.in_ok-draft.draft) refl found c.deref-6.ensures.value c.in_ok-draft.ensures
+    ∙ ap (λ (told : Told). report c.args.form script told (states_for (lines_of script) states) (states_for (lines_of script) texts)) same

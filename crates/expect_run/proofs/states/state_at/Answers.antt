@@ -1,24 +1,14 @@
-use Rattle.std.proofs.Common.{List, ℕ, ap, subst, ◌∙◌}
+use Rattle.std.proofs.Common.{ap, ◌∙◌}
 use Rattle.room_net.specs.State.{NetState}
-use Rattle.room_run.specs.Emulate.{IsReported}
-use Rattle.expect_run.specs.States.{state_said}
-use Rattle.expect_run.proofs.Refusals.{IsWant, not_refused_earlier}
-use Rattle.expect_run.proofs.Standing.{state_of_run}
+use Rattle.expect_run.specs.States.{device_of, state_said, state_shown}
 use Rattle.expect_run.proofs.states.state_at.Goals as goal
 
-pub unreachable-requires-in-Script : goal.unreachable-requires-in-Script
-unreachable-requires-in-Script c =
-    let traced = c.requires.traced in
-    let reported = subst (λ (s : List ℕ). IsReported c.args.topology.now s c.in-Err.error) (c.deref.ensures.value ∙ c.in_ok-cut.ensures) c.in-Err.ensures.reported in
-    subst IsWant c.in-Script.is (not_refused_earlier c.one_script.ensures c.args.topology.now c.args.plain.now traced.0 c.args.time traced.1 c.in-Err.error c.requires.early traced.2 reported)
+pub returns-clause-said : goal.returns-clause-said
+returns-clause-said c =
+    let devices = c.devices.ensures ∙ ap (λ (s : NetState). s.devices) c.deref.ensures in
+    (c.in_ok-net.net.value, c.in_ok-net.ensures, c.in_ok-said.ensures ∙ ap state_said (c.device_of-device.ensures ∙ ap (device_of c.args.device.now) devices))
 
-pub unreachable-requires-in-Edid : goal.unreachable-requires-in-Edid
-unreachable-requires-in-Edid c =
-    let traced = c.requires.traced in
-    let reported = subst (λ (s : List ℕ). IsReported c.args.topology.now s c.in-Err.error) (c.deref.ensures.value ∙ c.in_ok-cut.ensures) c.in-Err.ensures.reported in
-    subst IsWant c.in-Edid.is (not_refused_earlier c.one_script.ensures c.args.topology.now c.args.plain.now traced.0 c.args.time traced.1 c.in-Err.error c.requires.early traced.2 reported)
-
-pub returns : goal.returns
-returns c =
-    state_of_run (λ r x s. Unit {0}) c.args.topology.now c.args.plain.now c.deref.result.now c.args.device.now c.in_ok-state.state.items c.args.time _ _ c.in-Ok.net.value c.devices.result.now
-    (c.deref.ensures.value ∙ c.in_ok-cut.ensures) c.in-Ok.ensures.ok (c.devices.ensures ∙ ap (λ (s : NetState). s.devices) c.deref-2.ensures) (c.in_ok-state.ensures ∙ ap state_said c.device_of.ensures)
+pub returns-clause-shown : goal.returns-clause-shown
+returns-clause-shown c =
+    let devices = c.devices.ensures ∙ ap (λ (s : NetState). s.devices) c.deref.ensures in
+    (c.in_ok-net.net.value, c.in_ok-net.ensures, c.in_ok-shown.ensures ∙ ap (state_shown c.args.form) (c.device_of-device.ensures ∙ ap (device_of c.args.device.now) devices))

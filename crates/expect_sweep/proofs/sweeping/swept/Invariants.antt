@@ -10,6 +10,7 @@ abbrev pub invariant-instants : goal.invariant-instants
 invariant-instants g l = record {
   within : l.at ≤ l.to;
   last : (draft_as l.draft).last.last ≡ l.at;
+  form : (draft_as l.draft).form ≡ l.fn.form;
   is : IsDraft (AreVerdictsAt l.topology l.script) l.series (draft_as l.draft);
   heard : IsHeardTo g.H.ProgressHearer.hears (AreVerdictsAt l.topology l.script) l.series ((l.draft.done - 1) / told_each) l.fn.hearer l.hearer;
 }

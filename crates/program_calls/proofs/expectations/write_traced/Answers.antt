@@ -7,7 +7,7 @@ use Rattle.program_calls.proofs.expectations.write_traced.Goals as goal
 
 pub returns : goal.returns
 returns g c =
-    on_ok c.passed.result (c.in_ok-tally.tally.failed ≡ 0) (WritesTest Traced c.args.topology.now c.args.script.now (g.W.Sink.contents c.args.out.now) (g.W.Sink.contents c.put_all.new.out))
-    (λ none. traced c.args.topology.now c.args.script.now c.in_ok-remarks.remarks.items c.deref.result.now (g.W.Sink.contents c.args.out.now) (g.W.Sink.contents c.check.new.out) (g.W.Sink.contents c.put_all.new.out)
+    on_ok c.passed.result (c.in_ok-tally.tally.failed ≡ 0) (WritesTest c.args.form Traced c.args.topology.now c.args.script.now (g.W.Sink.contents c.args.out.now) (g.W.Sink.contents c.put_all.new.out))
+    (λ none. traced c.args.form c.args.topology.now c.args.script.now c.in_ok-remarks.remarks.items c.deref.result.now (g.W.Sink.contents c.args.out.now) (g.W.Sink.contents c.check.new.out) (g.W.Sink.contents c.put_all.new.out)
     c.in_ok-tally.tally c.in_ok-tally.ensures.ok c.in_ok-remarks.ensures c.deref.ensures.value c.in_ok-put_all.ensures.ok none)
     c.passed.ensures

@@ -11,7 +11,7 @@ use Rattle.expect_run.proofs.told.RunToldReporter.event.Goals as goal
 
 pub returns-then-not-is_on_time : goal.returns-then-not-is_on_time
 returns-then-not-is_on_time g c = λ before applied.
-    lost_sifted (sifted_as c.args.self.now) _ (OfEvent c.args.applied.now.at c.args.applied.now.event.now before ∷ []) refl refl refl refl
+    lost_sifted (sifted_as c.args.self.now) _ (OfEvent c.args.applied.now.at c.args.applied.now.event.now before ∷ []) refl refl refl refl refl
 
 pub returns-in-Ok : goal.returns-in-Ok
 returns-in-Ok g c = λ before applied.
@@ -19,8 +19,8 @@ returns-in-Ok g c = λ before applied.
     let e = c.args.applied.now.event.now in
     let event : EventLine = record { at = at; line = e.line; refused = option_copied c.refusal_said.result } in
     let is : event ≡ event_told at e (event_fault before e.event) = λ i. record { at = at; line = e.line; refused = (c.refusal_said.ensures ∙ ap (option_map error_word) applied.refused_is) i } in
-    event_sifted (sifted_as c.args.self.now) _ at e before event is refl refl refl refl (sym c.is_on_time.ensures ∙ c.if-not-is_on_time.false) refl c.in-Ok.ensures
+    event_sifted (sifted_as c.args.self.now) _ at e before event is refl refl refl refl refl (sym c.is_on_time.ensures ∙ c.if-not-is_on_time.false) refl c.in-Ok.ensures
 
 pub returns-in-Err : goal.returns-in-Err
 returns-in-Err g c = λ before applied.
-    lost_sifted (sifted_as c.args.self.now) _ (OfEvent c.args.applied.now.at c.args.applied.now.event.now before ∷ []) refl refl refl refl
+    lost_sifted (sifted_as c.args.self.now) _ (OfEvent c.args.applied.now.at c.args.applied.now.event.now before ∷ []) refl refl refl refl refl

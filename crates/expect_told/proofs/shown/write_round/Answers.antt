@@ -1,0 +1,10 @@
+use Rattle.std.proofs.Common.{rules}
+use Rattle.text_core.proofs.Adding.{text_ended}
+use Rattle.room_trace.specs.Records.{round_text}
+use Rattle.expect_told.proofs.shown.write_round.Goals as goal
+
+pub returns : goal.returns
+returns g c =
+    text_ended g.S.Sink.contents g.S.Sink.is_stuck c.args.out.now _ c.into_sink-below.result.now _ c.into_sink-below.result.ghost_name c.new-text.result c.add_round.new.out (round_text c.args.form c.args.devices.now c.args.outcome.now) c.written-written.result
+    c.new-text.ensures c.add_round.ensures c.written-written.ensures.text
+    c.into_sink-below.ensures.loan c.into_sink-below.ensures.known c.into_sink-below.ensures.stuck (search rules)

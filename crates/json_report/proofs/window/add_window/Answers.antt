@@ -1,5 +1,0 @@
-use Rattle.text_core.proofs.Adding.{then}
-use Rattle.json_report.proofs.window.add_window.Goals as goal
-
-pub returns : goal.returns
-returns g c = then _ _ _ _ _ (then _ _ _ _ _ (then _ _ _ _ _ c.add_type.ensures c.add_field.ensures) c.add_field-2.ensures) c.add_field-3.ensures

@@ -1,4 +1,0 @@
-pub mod Writing
-pub mod Spaces
-pub mod Parted
-pub mod Reading

@@ -1,5 +1,0 @@
-use Rattle.std.proofs.Common.{length}
-use Rattle.json_trace.proofs.columns.+add_fields.Given as goal
-
-abbrev pub decreases-add_fields : goal.decreases-add_fields
-decreases-add_fields g l = length l.columns.now

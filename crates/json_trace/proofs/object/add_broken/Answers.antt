@@ -1,9 +1,0 @@
-use Rattle.json_trace.proofs.Parted.{broken_is}
-use Rattle.text_core.proofs.Adding.{then}
-use Rattle.json_trace.proofs.Writing.{adds_as}
-use Rattle.json_trace.proofs.object.add_broken.Goals as goal
-
-pub returns : goal.returns
-returns g c =
-    adds_as c.args.out.now c.add_seats.new.out _ _ (broken_is c.args.line.now c.after_ending-rest.result.now c.reported_in.result.now c.after_ending-rest.ensures c.reported_in.ensures)
-    (then _ _ _ _ _ (then _ _ _ _ _ c.add_begun.ensures c.add_field.ensures) c.add_seats.ensures)

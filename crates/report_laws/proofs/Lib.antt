@@ -1,2 +1,0 @@
-mod Parted
-mod Told
