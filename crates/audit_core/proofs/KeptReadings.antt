@@ -1,5 +1,5 @@
 -- The remarks of an audit are lines that begin with two spaces.
-use Rattle.std.proofs.Common.{◌≡◌, ℕ, ◌+◌, ◌/◌, ◌%◌, ◌==◌, ◌-◌, ◌&&◌, Bool, true, false, not, nat_lt, if◌then◌else◌, List, [], ◌∷◌, ◌++◌, Option, None, Some, option_and_then, option_map, slice_get, codes, refl, sym, ap, subst, ◌∙◌, append-nil, append_assoc}
+use Rattle.std.proofs.Common.{◌≡◌, ℕ, ◌+◌, ◌/◌, ◌%◌, ◌==◌, ◌-◌, ◌&&◌, Bool, true, false, not, nat_lt, if◌then◌else◌, List, [], ◌∷◌, ◌++◌, length, Option, None, Some, option_and_then, option_map, slice_get, codes, refl, sym, ap, subst, ◌∙◌, append-nil, append_assoc}
 use Rattle.std.specs.Fmt.{decimal}
 use Rattle.std.specs.List.{flat_map, list_all}
 use Rattle.std.proofs.lemmas.Grind.{flat_map-append}
@@ -14,7 +14,7 @@ use Rattle.audit_widths.specs.declared.misfit.SlotWidth.TheVariants.{Low, Total}
 use Rattle.audit_widths.specs.declared.misfit.Misfit.{Misfit}
 use Rattle.audit_widths.specs.declared.spread.Spread.{Spread}
 use Rattle.audit_widths.specs.declared.spread.Widths.{Widths}
-use Rattle.audit_widths.specs.Misfits.{drive_within, fits, low_misfit, total_misfit, window}
+use Rattle.audit_widths.specs.Misfits.{drive_within, fits, window}
 use Rattle.audit_widths.specs.Spreads.{no_widths, with_slots}
 use Rattle.audit_remarks.specs.declared.attempts.Failure.{Failure}
 use Rattle.audit_remarks.specs.declared.counts.FrameCount.{FrameCount}
@@ -22,9 +22,9 @@ use Rattle.audit_remarks.specs.declared.header.FrameHead.{FrameHead}
 use Rattle.audit_remarks.specs.declared.messages.Receivers.{Receivers}
 use Rattle.audit_remarks.specs.declared.messages.Receivers.TheVariants.{OneDevice, AllDevices}
 use Rattle.audit_remarks.specs.declared.requests.Request.{Request}
-use Rattle.audit_remarks.specs.declared.series.BadStartSeries.{BadStartSeries}
 use Rattle.audit_remarks.specs.declared.sources.Mention.{Mention}
 use Rattle.audit_remarks.specs.Attempts.{failure_of, tries_again}
+use Rattle.audit_remarks.specs.Endings.{ending_of, goes_on_after, is_measured}
 use Rattle.audit_remarks.specs.Frames.{delivered_frame, sender}
 use Rattle.audit_remarks.specs.Free.{free_before, too_soon}
 use Rattle.audit_remarks.specs.Header.{head_read}
@@ -50,8 +50,10 @@ use Rattle.audit_notes.specs.declared.note.AuditNote.{AuditNote}
 use Rattle.audit_notes.specs.declared.note.AuditNote.TheVariants as notes
 use Rattle.audit_notes.specs.declared.note.SpreadKind.{SpreadKind}
 use Rattle.audit_notes.specs.declared.note.SpreadKind.TheVariants as spreads
-use Rattle.audit_core.specs.Lines.{answer_lines, answers_lines, claims_lines, count_lines, counts_lines, if_answered, if_given_up, if_late, late_lines, misfit_lines, named_lines, noted, spread_lines, timing_lines, unless_reported, widths_lines}
-use Rattle.audit_core.specs.Audit.{Tape, after, after_all, audit_text, come_to, drive_of, first_tape, frame_lines, heard_all, is_folded, lows_of, named_in, named_of, read_lines, reading_misfits, remark_lines, remarks_text, reported_all, summary_lines, summary_text, times_lines, line_and_remarks, unfinished_of}
+use Rattle.audit_core.specs.declared.lines.LastSlot.{LastSlot}
+use Rattle.audit_core.specs.Lines.{answer_lines, answers_lines, claims_lines, count_lines, counts_lines, ending_note, goes_on_note, if_answered, if_given_up, if_late, last_of, late_lines, misfit_lines, named_lines, noted, slot_by, slot_low, slot_total, spread_lines, timing_lines, unless_reported, widths_lines}
+use Rattle.audit_core.specs.Audit.{Tape, after, after_all, audit_text, come_to, drive_of, first_tape, frame_lines, heard_all, lows_of, named_in, named_of, read_lines, reading_misfits, remark_lines, remarks_text, reported_all, summary_lines, summary_text, times_lines, line_and_remarks, unfinished_of}
+use Rattle.audit_core.proofs.EndingLines.{cause_remark, ending_remark, goes_on_remark}
 use Rattle.audit_core.proofs.OneLine.{plain_opcode, worded}
 use Rattle.audit_core.proofs.Plain.{plain_codes, plain_decimal, plain_hex, plain_more, plain_nibble, plain_phys}
 use Rattle.audit_core.specs.Kept.{AllRemarks, AreKept, AreRemarks, IsClosed, IsPlain, IsRemark, PlainIf, shown}
@@ -173,6 +175,9 @@ note_remark (notes.LowDrive width) = drive_remark width
 note_remark (notes.DriveWithin width) = (refl, refl, ends (num (codes "low drive for ") width refl none))
 note_remark (notes.Unfinished block) = (refl, refl, ends (num (codes "ends after block ") block refl (alone (codes " without EOM") refl none)))
 note_remark (notes.Attempt f) = failure_remark f
+note_remark (notes.GoesOn block who) = goes_on_remark block who
+note_remark (notes.Ending r who) = ending_remark r who
+note_remark (notes.Cause c) = cause_remark c
 note_remark (notes.Moved initiator p) =
     (refl, refl, ends (first (nibble_text (initiator % 16)) (plain_nibble (initiator % 16)) (led (codes " reported ") (phys_text p) refl (plain_phys p) (alone (codes " before") refl none))))
 note_remark (notes.Receivers r) = receivers_remark r
@@ -263,10 +268,12 @@ unless_not : (b : Bool) (lines : List AuditLine) → AreSaid lines → AreSaid (
 unless_not true lines h = tt
 unless_not false lines h = h
 
-said_misfits : (ending : Ending) (bits : List Bool) (slot : ℕ) (lows : List LowOf) → AreSaid (misfit_lines ending bits slot lows)
-said_misfits ending bits slot [] = tt
-said_misfits ending bits slot (low ∷ lows) =
-    said_more _ _ (said_more _ _ (said_noted (option_map notes.Misfit (low_misfit bits slot low))) (said_noted (option_map notes.Misfit (total_misfit ending bits slot low)))) (said_misfits ending bits (slot + 1) lows)
+said_misfits : (last : LastSlot) (ending : Ending) (bits : List Bool) (slot : ℕ) (lows : List LowOf) → AreSaid (misfit_lines last ending bits slot lows)
+said_misfits last ending bits slot [] = tt
+said_misfits last ending bits slot (low ∷ lows) =
+    said_more _ _
+    (said_more _ _ (said_noted (option_map notes.Misfit (slot_low (slot_by last (length lows)) bits slot low))) (said_noted (option_map notes.Misfit (slot_total (slot_by last (length lows)) ending bits slot low))))
+    (said_misfits last ending bits (slot + 1) lows)
 
 said_claims : (reported active : List Mention) → AreSaid (claims_lines reported active)
 said_claims reported [] = tt
@@ -311,8 +318,8 @@ said_summary end t =
 
 -- ---- below a reading
 
-said_folded : (s : BadStartSeries) (x : Listed) (lows : List LowOf) → AreSaid (reading_misfits s x lows)
-said_folded s x lows = unless_not (is_folded s x.reported.ending) _ (said_misfits x.reported.ending x.reported.bits 0 lows)
+said_measured : (t : Tape) (x : Listed) (lows : List LowOf) (drive : Option ℕ) → AreSaid (reading_misfits t x lows drive)
+said_measured t x lows drive = unless (is_measured t.previous t.series x lows) _ (said_misfits (last_of drive x lows) x.reported.ending x.reported.bits 0 lows)
 
 said_times : (t : Tape) (x : Listed) (lows : List LowOf) (drive : Option ℕ) → AreSaid (times_lines t x lows drive)
 said_times t x lows drive =
@@ -322,8 +329,12 @@ said_times t x lows drive =
     (said_more _ _
     (said_more _ _
     (said_more _ _
-    (said_more _ _ (said_noted (option_map notes.BadStarts (series_over t.series x.reported.ending))) (said_answers x.begin (delivered_frame x) t.waiting)) (said_noted (option_map notes.Free (too_soon t.previous x (tries_again t.attempts x.reported.bits))))) (said_folded t.series x lows)) (said_noted (option_map notes.LowDrive drive)))
-    (said_noted (option_map notes.DriveWithin (drive_within lows)))) (said_noted (option_map notes.Unfinished (unfinished_of x lows)))) (said_noted (option_map notes.Attempt (failure_of t.attempts x.begin (free_before t.previous x.begin) x.reported.bits)))
+    (said_more _ _
+    (said_more _ _
+    (said_more _ _ (said_noted (option_map notes.BadStarts (series_over t.series x.reported.ending))) (said_answers x.begin (delivered_frame x) t.waiting)) (said_noted (option_map notes.Free (too_soon t.previous x (tries_again t.attempts x.reported.bits))))) (said_measured t x lows drive)) (said_noted (option_map notes.LowDrive drive)))
+    (said_noted (option_map notes.DriveWithin (drive_within lows)))) (said_noted (option_map notes.Unfinished (unfinished_of x lows)))) (said_noted (option_map notes.Attempt (failure_of t.attempts x.begin (free_before t.previous x.begin) x.reported.bits))))
+    (said_noted (goes_on_note x.reported.bits (goes_on_after x.reported.bits))))
+    (said_noted (ending_note x.reported.bits (ending_of t.previous t.series drive x lows)))
 
 said_read : (x : Listed) → AreSaid (read_lines x)
 said_read x = said_more _ _ (said_noted (option_map notes.Read (head_read x.reported.ending x.reported.bits))) (said_named (named_of x) (named_plain (frame_in (reading_as x))))

@@ -6,5 +6,7 @@ pub mod Idle
 pub mod JoinedLines
 pub mod Plain
 pub mod OneLine
+pub mod EndingLines
 pub mod KeptReadings
+pub mod EndingsSaid
 pub mod KeptLines

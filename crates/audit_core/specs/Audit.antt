@@ -1,6 +1,6 @@
 -- The audit of a capture: below the line of each reading what there is to remark, in order, and at the end the widths of
 -- all readings (own).
-use Rattle.std.specs.Prelude.{◌≡◌, ℕ, Bool, nat_lt, ◌&&◌, if◌then◌else◌, List, [], ◌∷◌, ◌++◌, map, Option, Some, None, option_map}
+use Rattle.std.specs.Prelude.{◌≡◌, ℕ, Bool, ◌||◌, is_some, if◌then◌else◌, List, [], ◌∷◌, ◌++◌, map, Option, Some, None, option_map}
 use Rattle.text_core.specs.declared.phys.Phys.{Phys}
 use Rattle.line_wave.specs.declared.Edge.{Edge}
 use Rattle.line_frames.specs.declared.Ending.{Ending}
@@ -28,8 +28,9 @@ use Rattle.audit_remarks.specs.declared.sources.Sources.{Sources}
 use Rattle.audit_remarks.specs.Attempts.{after_attempt, failure_of, no_attempts, tries_again}
 use Rattle.audit_remarks.specs.Counts.{no_counts, with_reading}
 use Rattle.audit_remarks.specs.Frames.{delivered_frame, sender}
-use Rattle.audit_remarks.specs.Free.{free_before, is_bad_start, no_previous, previous_with, too_soon}
-use Rattle.audit_core.specs.Lines.{answers_lines, claims_lines, counts_lines, late_lines, misfit_lines, named_lines, noted, timing_lines, widths_lines}
+use Rattle.audit_remarks.specs.Endings.{ending_of, goes_on_after, is_measured, last_says}
+use Rattle.audit_remarks.specs.Free.{free_before, no_previous, previous_with, too_soon}
+use Rattle.audit_core.specs.Lines.{answers_lines, claims_lines, counts_lines, ending_note, goes_on_note, last_of, late_lines, misfit_lines, named_lines, noted, timing_lines, widths_lines}
 use Rattle.audit_notes.specs.Lines.{AuditLine, lines_text}
 use Rattle.audit_notes.specs.Lines.AuditLine.{Note, Reading}
 use Rattle.audit_notes.specs.declared.note.AuditNote.TheVariants as notes
@@ -84,13 +85,6 @@ pub record IsHeard (h : Heard) : Type 0 where
   pub lows : h.lows.now.items ≡ lows_of (listed_as h.reading.now) h.edges.now
   pub frame : h.frame.items ≡ delivered_frame (listed_as h.reading.now)
 
--- the widths that are out of their windows: of bad starts in a row those of the first one
-abbrev pub is_folded : BadStartSeries → Ending → Bool
-is_folded s ending = is_bad_start ending && nat_lt 0 s.count
-
-abbrev pub reading_misfits : BadStartSeries → Listed → List Low → List AuditLine
-reading_misfits s x lows = if is_folded s x.reported.ending then [] else misfit_lines x.reported.ending x.reported.bits 0 lows
-
 -- the low drive that may follow it
 abbrev pub drive_by : Ending → Option Low → Option ℕ
 drive_by ending None = None
@@ -99,21 +93,24 @@ drive_by ending (Some low) = low_drive ending low
 abbrev pub drive_of : Listed → List Edge → Option ℕ
 drive_of x edges = drive_by x.reported.ending (first_low (gone_to x.reported.at edges))
 
--- the block after which it breaks off, where no low drive breaks it
-abbrev pub unless_driven : Option ℕ → Option ℕ → Option ℕ
-unless_driven None block = block
-unless_driven (Some width) block = None
+-- the widths that are out of their windows, and that no low drive makes
+abbrev pub reading_misfits : Tape → Listed → List Low → Option ℕ → List AuditLine
+reading_misfits t x lows drive =
+    if is_measured t.previous t.series x lows then misfit_lines (last_of drive x lows) x.reported.ending x.reported.bits 0 lows else []
 
+-- the block after which it breaks off, where no low drive and no width breaks it
 abbrev pub unfinished_of : Listed → List Low → Option ℕ
-unfinished_of x lows = unless_driven (drive_within lows) (unfinished x.reported.ending x.reported.bits)
+unfinished_of x lows =
+    if is_some (drive_within lows) || last_says x.reported.ending x.reported.bits 0 lows then None else unfinished x.reported.ending x.reported.bits
 
 -- what there is to remark of what was before it, of its times and its blocks, by its low stretches and the low drive that follows
 abbrev pub times_lines : Tape → Listed → List Low → Option ℕ → List AuditLine
 times_lines t x lows drive =
     noted (option_map notes.BadStarts (series_over t.series x.reported.ending)) ++ answers_lines x.begin (delivered_frame x) t.waiting
-    ++ noted (option_map notes.Free (too_soon t.previous x (tries_again t.attempts x.reported.bits))) ++ reading_misfits t.series x lows ++ noted (option_map notes.LowDrive drive)
+    ++ noted (option_map notes.Free (too_soon t.previous x (tries_again t.attempts x.reported.bits))) ++ reading_misfits t x lows drive ++ noted (option_map notes.LowDrive drive)
     ++ noted (option_map notes.DriveWithin (drive_within lows)) ++ noted (option_map notes.Unfinished (unfinished_of x lows))
     ++ noted (option_map notes.Attempt (failure_of t.attempts x.begin (free_before t.previous x.begin) x.reported.bits))
+    ++ noted (goes_on_note x.reported.bits (goes_on_after x.reported.bits)) ++ noted (ending_note x.reported.bits (ending_of t.previous t.series drive x lows))
 
 -- what the standard calls what the line leaves as bytes
 abbrev pub named_in : Option (List ℕ) → Option (List ℕ)

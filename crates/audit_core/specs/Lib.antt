@@ -1,4 +1,5 @@
 pub mod Lines
 pub mod Audit
 pub mod Kept
+pub mod Endings
 pub mod Joined

@@ -1,22 +1,30 @@
 -- What is said of a reading, part by part (own).
-use Rattle.std.specs.Prelude.{ℕ, ◌+◌, ◌/◌, ◌==◌, Bool, true, false, ◌&&◌, if◌then◌else◌, List, [], ◌∷◌, ◌++◌, Option, Some, None, option_map}
-use Rattle.line_frames.specs.declared.Ending.{Ending}
+use Rattle.std.specs.Prelude.{ℕ, ◌+◌, ◌/◌, ◌==◌, Bool, true, false, ◌&&◌, if◌then◌else◌, List, [], ◌∷◌, ◌++◌, length, Option, Some, None, option_map}
+use Rattle.line_frames.specs.declared.Ending.{Ending as EndingOf}
+use Rattle.line_reading.specs.Readings.{Listed}
+use Rattle.audit_judged.specs.declared.widths.Party.TheVariants.{Initiator}
 use Rattle.audit_widths.specs.declared.low.Low.{Low}
 use Rattle.audit_widths.specs.declared.spread.Spread.{Spread}
 use Rattle.audit_widths.specs.declared.spread.Widths.{Widths}
-use Rattle.audit_widths.specs.Misfits.{low_misfit, total_misfit}
+use Rattle.audit_widths.specs.declared.misfit.Misfit.{Misfit as MisfitOf}
+use Rattle.audit_widths.specs.Misfits.{drive_within, low_misfit, total_misfit}
 use Rattle.audit_remarks.specs.declared.counts.FrameCount.{FrameCount}
 use Rattle.audit_remarks.specs.declared.requests.Request.{Request}
 use Rattle.audit_remarks.specs.declared.sources.Mention.{Mention}
+use Rattle.audit_judged.specs.declared.endings.Said.{Said}
+use Rattle.audit_judged.specs.declared.endings.Said.TheVariants.{Nothing, Allowed, Remarked}
+use Rattle.audit_remarks.specs.Endings.{initiator_read, is_stray, party_of}
 use Rattle.audit_remarks.specs.Requests.{is_answer, is_given_up, is_late, waited}
 use Rattle.audit_remarks.specs.Sources.{is_unreported}
 use Rattle.audit_notes.specs.Lines.{AuditLine}
 use Rattle.audit_notes.specs.Lines.AuditLine.{Note, Word}
 use Rattle.audit_notes.specs.declared.note.AuditNote.{AuditNote}
-use Rattle.audit_notes.specs.declared.note.AuditNote.TheVariants.{LateAnswer, Misfit, NoAnswer, Sender, Unreported, Widths as WidthsNote}
+use Rattle.audit_notes.specs.declared.note.AuditNote.TheVariants.{Cause, Ending, GoesOn, LateAnswer, Misfit, NoAnswer, Sender, Unreported, Widths as WidthsNote}
 use Rattle.audit_notes.specs.declared.note.SpreadKind.{SpreadKind}
 use Rattle.audit_notes.specs.declared.note.SpreadKind.TheVariants as spreads
 use Rattle.audit_notes.specs.declared.note.WidthSummary.{WidthSummary}
+use Rattle.audit_core.specs.declared.lines.LastSlot.{LastSlot}
+use Rattle.audit_core.specs.declared.lines.LastSlot.TheVariants.{Own, Followed, Driven}
 
 -- a note, if there is one
 abbrev pub noted : Option AuditNote → List AuditLine
@@ -30,11 +38,46 @@ named_lines (Some name) = Word name ∷ []
 
 -- ---- times
 
+-- the last slot, after or within which a low drive of this width begins
+abbrev pub last_by : Option ℕ → Option ℕ → LastSlot
+last_by drive (Some width) = Driven
+last_by (Some width) None = Followed
+last_by None None = Own
+
+-- what is no start bit is one low, and what comes after it has nothing to do with it
+abbrev pub last_of : Option ℕ → Listed → List Low → LastSlot
+last_of drive x lows = if is_stray x lows then Followed else last_by drive (drive_within lows)
+
+-- a slot before so many others
+abbrev pub slot_by : LastSlot → ℕ → LastSlot
+slot_by last left = if left == 0 then last else Own
+
+abbrev pub slot_low : LastSlot → List Bool → ℕ → Low → Option MisfitOf
+slot_low Own bits slot low = low_misfit bits slot low
+slot_low Followed bits slot low = low_misfit bits slot low
+slot_low Driven bits slot low = None
+
+abbrev pub slot_total : LastSlot → EndingOf → List Bool → ℕ → Low → Option MisfitOf
+slot_total Own ending bits slot low = total_misfit ending bits slot low
+slot_total _ ending bits slot low = None
+
 -- the widths that are out of their windows, of the slots from one on; slot 0 is the start bit
-abbrev pub misfit_lines : Ending → List Bool → ℕ → List Low → List AuditLine
-misfit_lines ending bits slot [] = []
-misfit_lines ending bits slot (low ∷ lows) =
-    noted (option_map Misfit (low_misfit bits slot low)) ++ noted (option_map Misfit (total_misfit ending bits slot low)) ++ misfit_lines ending bits (slot + 1) lows
+abbrev pub misfit_lines : LastSlot → EndingOf → List Bool → ℕ → List Low → List AuditLine
+misfit_lines last ending bits slot [] = []
+misfit_lines last ending bits slot (low ∷ lows) =
+    noted (option_map Misfit (slot_low (slot_by last (length lows)) bits slot low)) ++ noted (option_map Misfit (slot_total (slot_by last (length lows)) ending bits slot low))
+    ++ misfit_lines last ending bits (slot + 1) lows
+
+-- ---- endings
+
+abbrev pub ending_note : List Bool → Said → Option AuditNote
+ending_note bits Nothing = None
+ending_note bits (Allowed cause) = Some (Cause cause)
+ending_note bits (Remarked r) = Some (Ending r (party_of bits r))
+
+abbrev pub goes_on_note : List Bool → Option ℕ → Option AuditNote
+goes_on_note bits None = None
+goes_on_note bits (Some block) = Some (GoesOn block (Initiator (initiator_read bits)))
 
 -- ---- active sources that nobody reported
 

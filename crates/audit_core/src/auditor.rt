@@ -2,27 +2,28 @@
 ghost use Rattle.std.specs.Prelude.{◌≡◌, []};
 ghost use Rattle.std.specs.Option.{option_copied};
 ghost use Rattle.line_reading.specs.Reports.{listed_as};
-ghost use Rattle.audit_core.specs.Audit.{IsHeard, drive_of, first_tape, frame_lines, is_folded, named_of, read_lines, reading_misfits, remark_lines, summary_lines, tape_after, tape_at, times_lines};
+ghost use Rattle.audit_core.specs.Audit.{IsHeard, drive_of, first_tape, frame_lines, named_of, read_lines, reading_misfits, remark_lines, summary_lines, tape_after, tape_at, times_lines};
 ghost use Rattle.audit_core.specs.Lines.{timing_lines};
+ghost use Rattle.audit_widths.specs.Misfits.{drive_within};
 ghost use Rattle.audit_widths.specs.Spreads.{no_widths, with_slots};
 
 use crate::heard::{Heard, lows_of};
 use crate::lines::{
     hear_answers, hear_claims, hear_counts, hear_late, hear_misfits, hear_named, hear_noted,
-    hear_widths,
+    hear_widths, last_of,
 };
 use crate::notes::{
-    attempt_note, block_note, drive_note, head_note, moved_note, operands_note, receivers_note,
-    series_note, soon_note, within_note,
+    attempt_note, block_note, drive_note, ending_note, goes_on_note, head_note, moved_note,
+    operands_note, receivers_note, series_note, soon_note, within_note,
 };
 use audit_notes::{AuditNote, LineHearer};
 use audit_remarks::{
     Attempts, BadStartSeries, Counts, Places, Previous, Sources, Waiting, after_frame,
-    count_reading, head_read, is_bad_start, missed_receivers, missing_operands, moved_from,
-    no_counts, no_places, note_report, sender,
+    count_reading, goes_on_after, head_read, is_measured, missed_receivers, missing_operands,
+    moved_from, no_counts, no_places, note_report, sender,
 };
 use audit_widths::{Widths, drive_within};
-use line_frames::{Ending, Reading};
+use line_frames::Reading;
 use line_wave::Edge;
 use message_hex::remark;
 
@@ -57,23 +58,6 @@ fn hear_read<H: LineHearer>(out: &mut H, reading: &Reading)
     hear_named(out, named_of(reading));
 }
 
-// Whether a reading's widths are left out: it is a bad start after another one.
-fn is_folded(series: BadStartSeries, ending: Ending) -> bool
-    ensures { result ≡ is_folded series ending }
-{
-    is_bad_start(ending) && series.count > 0
-}
-
-fn hear_reading_misfits<H: LineHearer>(out: &mut H, series: BadStartSeries, heard: &Heard)
-    ensures { H.hears out.old (reading_misfits series (listed_as heard.now.reading.now) heard.now.lows.now.items) out.new }
-{
-    let reading = heard.reading;
-    if is_folded(series, reading.ending) {
-        return;
-    }
-    hear_misfits(out, reading.ending, &reading.bits, 0, heard.lows.as_slice());
-}
-
 // The widths of a reading, where they are asked for.
 fn hear_reading_widths<H: LineHearer>(out: &mut H, timing: bool, heard: &Heard)
     ensures { H.hears out.old (timing_lines timing (with_slots heard.now.reading.now.ending heard.now.reading.now.bits.items 0 heard.now.lows.now.items no_widths)) out.new }
@@ -85,6 +69,26 @@ fn hear_reading_widths<H: LineHearer>(out: &mut H, timing: bool, heard: &Heard)
 }
 
 impl Auditor {
+    // The widths of a reading that are out of their windows.
+    fn hear_reading_misfits<H: LineHearer>(
+        &self,
+        out: &mut H,
+        heard: &Heard,
+        drive: Option<u64>,
+        within: Option<u64>,
+    )
+        requires { within ≡ drive_within heard.now.lows.now.items }
+        ensures { H.hears out.old (reading_misfits (tape_at heard.now.edges.now self.now) (listed_as heard.now.reading.now) heard.now.lows.now.items drive) out.new }
+    {
+        let reading = heard.reading;
+        let lows = heard.lows.as_slice();
+        if !is_measured(self.previous, self.series, reading, lows) {
+            return;
+        }
+        let last = last_of(drive, within, reading, lows);
+        hear_misfits(out, last, reading.ending, &reading.bits, 0, lows);
+    }
+
     /// Before all readings.
     pub fn new() -> Self
         ensures { tape_at [] result ≡ first_tape [] }
@@ -111,16 +115,23 @@ impl Auditor {
         let again = self.attempts.tries_again(&reading.bits);
         let series = self.series.over(reading.ending);
         let soon = self.previous.too_soon(reading, again);
+        let drive = heard.drive();
         let within = drive_within(heard.lows.as_slice());
         let failure = self.attempts.failure_of(reading.begin, free, &reading.bits);
+        let said = heard.ending(self.previous, self.series, drive);
         hear_noted(out, series_note(series));
         hear_answers(out, reading.begin, &heard.frame, &self.waiting);
         hear_noted(out, soon_note(soon));
-        hear_reading_misfits(out, self.series, heard);
-        hear_noted(out, drive_note(heard.drive()));
+        self.hear_reading_misfits(out, heard, drive, within);
+        hear_noted(out, drive_note(drive));
         hear_noted(out, within_note(within));
         hear_noted(out, block_note(heard.unfinished()));
         hear_noted(out, attempt_note(failure));
+        hear_noted(
+            out,
+            goes_on_note(&reading.bits, goes_on_after(&reading.bits)),
+        );
+        hear_noted(out, ending_note(&reading.bits, said));
     }
 
     // What there is to remark of what a frame says.

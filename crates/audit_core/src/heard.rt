@@ -1,11 +1,13 @@
 //! A reading, with what the line did while it was heard.
 ghost use Rattle.std.specs.Prelude.{◌≡◌};
 ghost use Rattle.line_reading.specs.Reports.{listed_as};
-ghost use Rattle.audit_core.specs.Audit.{IsHeard, drive_of, falls_until, lows_of, unfinished_of, unless_driven};
+ghost use Rattle.audit_core.specs.Audit.{IsHeard, drive_of, falls_until, lows_of, unfinished_of};
+ghost use Rattle.audit_remarks.specs.Endings.{ending_of};
 ghost use Rattle.audit_widths.specs.Spreads.{no_widths, with_slots};
 
 use arrayvec::ArrayVec;
-use audit_remarks::{delivered_frame, unfinished};
+use audit_judged::Said;
+use audit_remarks::{BadStartSeries, Previous, delivered_frame, ending_of, last_says, unfinished};
 use audit_widths::{Cursor, Low, Widths, drive_within, first_low, low_drive, lows_before};
 use line_frames::{Ending, Reading};
 use line_wave::{Edge, MOST_SENT};
@@ -35,15 +37,6 @@ pub(crate) fn lows_of(reading: &Reading, edges: &[Edge]) -> ArrayVec<Low, MOST_S
     ensures { result.items ≡ lows_of (listed_as reading.now) edges.now }
 {
     lows_before(edges, falls_until(reading.ending, reading.at))
-}
-
-fn unless_driven(drive: Option<u64>, block: Option<usize>) -> Option<usize>
-    ensures { result ≡ unless_driven drive block }
-{
-    match drive {
-        None => block,
-        Some(_) => None,
-    }
 }
 
 impl<'a> Heard<'a> {
@@ -77,14 +70,29 @@ impl<'a> Heard<'a> {
         }
     }
 
-    /// The block after which it breaks off, where no low drive breaks it.
+    /// The block after which it breaks off, where no low drive and no width breaks it.
     pub(crate) fn unfinished(&self) -> Option<usize>
         ensures { result ≡ unfinished_of (listed_as self.now.reading.now) self.now.lows.now.items }
     {
-        unless_driven(
-            drive_within(self.lows.as_slice()),
-            unfinished(self.reading.ending, &self.reading.bits),
-        )
+        let reading = self.reading;
+        let lows = self.lows.as_slice();
+        if drive_within(lows).is_some() || last_says(reading.ending, &reading.bits, 0, lows) {
+            None
+        } else {
+            unfinished(reading.ending, &reading.bits)
+        }
+    }
+
+    /// What is said of how it ends, where nothing else says it.
+    pub(crate) fn ending(
+        &self,
+        previous: Previous,
+        series: BadStartSeries,
+        drive: Option<u64>,
+    ) -> Said
+        ensures { result ≡ ending_of previous series drive (listed_as self.now.reading.now) self.now.lows.now.items }
+    {
+        ending_of(previous, series, drive, self.reading, self.lows.as_slice())
     }
 
     /// Its widths alone.

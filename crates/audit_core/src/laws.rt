@@ -10,12 +10,20 @@ ghost use Rattle.message_table.specs.WordSets.{NamedByte, word_of};
 ghost use Rattle.message_text.specs.FrameText.{frame_text};
 ghost use Rattle.message_text.specs.ReadingText.{reading_text};
 ghost use Rattle.audit_core.specs.Audit.{AuditsAreLines, ReadingsAreLines};
+ghost use Rattle.audit_core.specs.Endings.{EndingsAreSaid};
 ghost use Rattle.audit_core.specs.Kept.{AuditsKeepReadings, IsPlain, IsRemark, PlainIf, is_remark, shown, without_remarks};
 
 /// Without the lines that begin with a space an audit is what a monitor writes of the capture, to the byte; and those lines
 /// begin with two, and stand below the reading that they are remarked of, or at the end.
 pub fn audits_keep_readings()
     ensures { AuditsKeepReadings }
+{}
+
+/// Of each reading that is not whole is said how it ends, by a width of its last slot, a low drive, a block, or a line of its own: what
+/// the standard has otherwise, or a lawful cause. Only a bit behind a frame that broke, and bad starts after a bad start, are passed
+/// over.
+pub fn endings_are_said()
+    ensures { EndingsAreSaid }
 {}
 
 /// The text of an audit, and that of readings, is that of its lines.

@@ -1,13 +1,84 @@
 //! What is said of a reading, part by part.
 ghost use Rattle.std.specs.Prelude.{◌≡◌, ◌+◌, ◌<◌, ◌≤◌, length};
 ghost use Rattle.std.specs.Option.{option_copied};
-ghost use Rattle.audit_core.specs.Lines.{answer_lines, answers_lines, claims_lines, count_lines, counts_lines, if_answered, if_given_up, if_late, late_lines, misfit_lines, named_lines, noted, spread_lines, summary_of, unless_reported, widths_lines};
+ghost use Rattle.line_reading.specs.Reports.{listed_as};
+ghost use Rattle.audit_widths.specs.Misfits.{drive_within};
+ghost use Rattle.audit_core.specs.Lines.{answer_lines, answers_lines, claims_lines, count_lines, counts_lines, if_answered, if_given_up, if_late, last_by, last_of, late_lines, misfit_lines, named_lines, noted, slot_by, slot_low, slot_total, spread_lines, summary_of, unless_reported, widths_lines};
 
 use crate::notes::misfit_note;
 use audit_notes::{AuditNote, LineHearer, SpreadKind, WidthSummary};
-use audit_remarks::{FrameCount, Mention, Request, Sources};
-use audit_widths::{Low, Spread, Widths, low_misfit, total_misfit};
-use line_frames::Ending;
+use audit_remarks::{FrameCount, Mention, Request, Sources, is_stray};
+use audit_widths::{Low, Misfit, Spread, Widths, low_misfit, total_misfit};
+use line_frames::{Ending, Reading};
+
+/// Which widths of the last slot of a reading are its own.
+#[derive(Clone, Copy, Debug, PartialEq, Eq)]
+pub(crate) enum LastSlot {
+    /// Both.
+    Own,
+    /// A low drive follows: the time to the next fall is none.
+    Followed,
+    /// A low drive begins within it: neither is.
+    Driven,
+}
+
+// The last slot of a reading that a low drive of this width follows, or within which one begins.
+fn last_by(drive: Option<u64>, within: Option<u64>) -> LastSlot
+    ensures { result ≡ last_by drive within }
+{
+    match within {
+        Some(_) => LastSlot::Driven,
+        None => match drive {
+            Some(_) => LastSlot::Followed,
+            None => LastSlot::Own,
+        },
+    }
+}
+
+/// The same of a reading of these low stretches: of a bad start that is no start bit by its low time that time alone is its own.
+pub(crate) fn last_of(
+    drive: Option<u64>,
+    within: Option<u64>,
+    reading: &Reading,
+    lows: &[Low],
+) -> LastSlot
+    requires { within ≡ drive_within lows.now }
+    ensures { result ≡ last_of drive (listed_as reading.now) lows.now }
+{
+    if is_stray(reading, lows) {
+        LastSlot::Followed
+    } else {
+        last_by(drive, within)
+    }
+}
+
+impl LastSlot {
+    // A slot before so many others. The widths of all but the last one are their own.
+    fn slot_by(self, left: usize) -> Self
+        ensures { result ≡ slot_by self left }
+    {
+        if left == 0 { self } else { LastSlot::Own }
+    }
+
+    fn slot_low(self, bits: &[bool], slot: u64, low: Low) -> Option<Misfit>
+        requires { slot < 1000 }
+        ensures { result ≡ slot_low self bits.now slot low }
+    {
+        match self {
+            LastSlot::Own | LastSlot::Followed => low_misfit(bits, slot, low),
+            LastSlot::Driven => None,
+        }
+    }
+
+    fn slot_total(self, ending: Ending, bits: &[bool], slot: u64, low: Low) -> Option<Misfit>
+        ensures { result ≡ slot_total self ending bits.now slot low }
+    {
+        match self {
+            LastSlot::Own => total_misfit(ending, bits, slot, low),
+            LastSlot::Followed | LastSlot::Driven => None,
+        }
+    }
+}
 
 /// Hears a note, if there is one.
 pub(crate) fn hear_noted<H: LineHearer>(out: &mut H, note: Option<AuditNote>)
@@ -32,20 +103,22 @@ pub(crate) fn hear_named<H: LineHearer>(out: &mut H, named: Option<&'static str>
 /// Hears the widths that are out of their windows, of the slots from one on. Slot 0 is the start bit.
 pub(crate) fn hear_misfits<H: LineHearer>(
     out: &mut H,
+    last: LastSlot,
     ending: Ending,
     bits: &[bool],
     slot: u64,
     lows: &[Low],
 )
     requires { slot + length lows.now < 1000 }
-    ensures { H.hears out.old (misfit_lines ending bits.now slot lows.now) out.new }
+    ensures { H.hears out.old (misfit_lines last ending bits.now slot lows.now) out.new }
 {
     let [low, lows @ ..] = lows else {
         return;
     };
-    hear_noted(out, misfit_note(low_misfit(bits, slot, *low)));
-    hear_noted(out, misfit_note(total_misfit(ending, bits, slot, *low)));
-    hear_misfits(out, ending, bits, slot + 1, lows);
+    let own = last.slot_by(lows.len());
+    hear_noted(out, misfit_note(own.slot_low(bits, slot, *low)));
+    hear_noted(out, misfit_note(own.slot_total(ending, bits, slot, *low)));
+    hear_misfits(out, last, ending, bits, slot + 1, lows);
 }
 
 fn hear_claim<H: LineHearer>(out: &mut H, sources: &Sources, claim: Mention)

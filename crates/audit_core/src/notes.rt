@@ -1,8 +1,12 @@
 //! What is found of a reading, as notes.
 ghost use Rattle.std.specs.Prelude.{◌≡◌, option_map};
+ghost use Rattle.audit_core.specs.Lines.{ending_note, goes_on_note};
 
+use audit_judged::{Party, Said};
 use audit_notes::AuditNote;
-use audit_remarks::{BadStartSeries, Failure, FrameHead, Missing, Receivers, TooSoon};
+use audit_remarks::{
+    BadStartSeries, Failure, FrameHead, Missing, Receivers, TooSoon, initiator_read, party_of,
+};
 use audit_widths::Misfit;
 use text_core::Phys;
 
@@ -66,6 +70,27 @@ pub(crate) fn attempt_note(attempt: Option<Failure>) -> Option<AuditNote>
     match attempt {
         None => None,
         Some(attempt) => Some(AuditNote::Attempt(attempt)),
+    }
+}
+
+/// That a frame of these bits goes on after a block that was not taken.
+pub(crate) fn goes_on_note(bits: &[bool], block: Option<usize>) -> Option<AuditNote>
+    ensures { result ≡ goes_on_note bits.now block }
+{
+    match block {
+        None => None,
+        Some(block) => Some(AuditNote::GoesOn(block, Party::Initiator(initiator_read(bits)))),
+    }
+}
+
+/// How a reading of these bits ends, where something is said of that.
+pub(crate) fn ending_note(bits: &[bool], said: Said) -> Option<AuditNote>
+    ensures { result ≡ ending_note bits.now said }
+{
+    match said {
+        Said::Nothing => None,
+        Said::Allowed(cause) => Some(AuditNote::Cause(cause)),
+        Said::Remarked(remark) => Some(AuditNote::Ending(remark, party_of(bits, remark))),
     }
 }
 

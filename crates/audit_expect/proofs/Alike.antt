@@ -5,6 +5,7 @@ use Rattle.capture_core.specs.Edges.{Captured}
 use Rattle.capture_core.specs.declared.fault.Cause.{Cause}
 use Rattle.capture_forms.specs.Captures.{capture_in}
 use Rattle.capture_forms.specs.declared.form.CaptureForm.TheVariants.{Edges}
+use Rattle.record_core.specs.declared.cell.Form.TheVariants.{Text}
 use Rattle.room_run.specs.Emulate.{TextsHaveOneLine}
 use Rattle.expect_remarks.specs.Kept.{audit_remarks}
 use Rattle.expect_remarks.specs.Met.{WhatIsShownWasMet, remarks_met, shown_remarks}
@@ -12,7 +13,7 @@ use Rattle.audit_expect.specs.Alike.{NoRemarkIsJudgedAlike}
 use Rattle.audit_expect.specs.Wanted.{pattern_in}
 
 abbrev told_by : Option (List ℕ) → Result Captured (At Cause) → List ℕ
-told_by pattern (Ok capture) = shown_remarks (remarks_met pattern (audit_remarks capture))
+told_by pattern (Ok capture) = shown_remarks Text (remarks_met pattern (audit_remarks capture))
 told_by pattern (Err fault) = []
 
 pub no_remark_is_judged_alike : TextsHaveOneLine → WhatIsShownWasMet → NoRemarkIsJudgedAlike
@@ -20,4 +21,4 @@ no_remark_is_judged_alike one shown topology plain pattern told edges totals cap
     let same = one Edges topology plain h.edges edges h.totals totals h.run run in
     let told_is : told ≡ told_by (pattern_in pattern) (Ok capture) =
     h.told_is ∙ sym (ap (told_by (pattern_in pattern)) h.read) ∙ ap (λ text. told_by (pattern_in pattern) (capture_in Edges [] text)) same.0 ∙ ap (told_by (pattern_in pattern)) read in
-    ap (λ text. Some (length text == 0)) told_is ∙ ap Some (shown (remarks_met (pattern_in pattern) (audit_remarks capture)))
+    ap (λ text. Some (length text == 0)) told_is ∙ ap Some (shown Text (remarks_met (pattern_in pattern) (audit_remarks capture)))

@@ -1,6 +1,7 @@
 -- No line of the expectations of a capture speaks of a state.
 use Rattle.std.proofs.Common.{◌≡◌, ℕ, Bool, true, false, List, [], ◌∷◌, map, refl, ap, ◌∙◌}
 use Rattle.text_core.specs.Lines.{lines_of}
+use Rattle.record_core.specs.declared.cell.Form.{Form}
 use Rattle.expect_judge.specs.Told.{Told}
 use Rattle.expect_judge.specs.Judged.{first_state, is_of_state, later_states, states_for}
 use Rattle.expect_run.specs.Report.{Report, tests}
@@ -21,5 +22,6 @@ no_states_for (line ∷ lines) =
     ∙ ap (λ (states : List (List ℕ)). [] ∷ states_for lines states) (none_later (is_of_state line))
     ∙ ap (λ (states : List (List ℕ)). [] ∷ states) (no_states_for lines)
 
-pub stateless : (script : List ℕ) (told told_so : Told) (r : Report) → told ≡ told_so → r ≡ tests script told (states_for (lines_of script) []) → r ≡ tests script told_so (no_states script)
-stateless script told told_so r same is = is ∙ ap (λ (t : Told). tests script t (states_for (lines_of script) [])) same ∙ ap (tests script told_so) (no_states_for (lines_of script))
+pub stateless : (form : Form) (script : List ℕ) (told told_so : Told) (r : Report) → told ≡ told_so → r ≡ tests form script told (states_for (lines_of script) []) (states_for (lines_of script) []) → r ≡ tests form script told_so (no_states script) (no_states script)
+stateless form script told told_so r same is =
+    is ∙ ap (λ (t : Told). tests form script t (states_for (lines_of script) []) (states_for (lines_of script) [])) same ∙ ap (λ (none : List (List ℕ)). tests form script told_so none none) (no_states_for (lines_of script))

@@ -1,13 +1,17 @@
 -- Lines of expectations of a capture (own): `label NAME at T` names an instant, `expect ..` says what is to be read, and a label may
 -- stand before it. Lines that are empty or begin with `#` have no meaning. A script may stand for them: an event with a label names its
 -- time, and other events, pulses without a label and the end are passed over. There are no other lines.
-use Rattle.std.specs.Prelude.{ℕ, ◌||◌, Bool, false, if◌then◌else◌, codes, List, [], ◌∷◌, Option, Some, None}
+use Rattle.std.specs.Prelude.{ℕ, ◌&&◌, ◌||◌, Bool, false, if◌then◌else◌, codes, List, [], ◌∷◌, Option, Some, None}
 use Rattle.std.specs.Option.{option_map}
+use Rattle.std.specs.List.{list_any}
 use Rattle.std.specs.Str.{bytes_eq}
 use Rattle.text_core.specs.Lines.{is_skipped}
 use Rattle.text_core.specs.Words.{words_of}
 use Rattle.expect_text.specs.Fault.{after_label}
 use Rattle.text_core.specs.At.{at_word}
+use Rattle.text_forms.specs.Forms.{Place, is_itself}
+use Rattle.room_lines.specs.Script.{script_rows}
+use Rattle.room_lines.specs.declared.script.ScriptVerb.{ScriptVerb}
 use Rattle.expect_text.specs.Form.{exact_number}
 use Rattle.expect_text.specs.Line.{unlabelled_words, has_verb, label_in}
 use Rattle.text_core.specs.declared.at.AtWord.{AtWord}
@@ -20,12 +24,32 @@ number_by (Some word) = exact_number word
 
 -- ---- instants
 
--- the words with which an event of a script begins after its time
-abbrev pub is_event_word : List ℕ → Bool
-is_event_word word =
-    bytes_eq word (codes "plug")
-    || (bytes_eq word (codes "unplug")
-    || (bytes_eq word (codes "press") || (bytes_eq word (codes "release") || (bytes_eq word (codes "send") || (bytes_eq word (codes "hold") || bytes_eq word (codes "drop"))))))
+-- a place of a form that has this word itself
+abbrev pub is_own : List ℕ → Place → Bool
+is_own word place = is_itself place.0 && bytes_eq place.1 word
+
+abbrev pub is_first : List ℕ → List Place → Bool
+is_first word [] = false
+is_first word (place ∷ places) = is_own word place
+
+abbrev pub is_third : List ℕ → List Place → Bool
+is_third word [] = false
+is_third word (at ∷ []) = false
+is_third word (at ∷ time ∷ []) = false
+is_third word (at ∷ time ∷ place ∷ places) = is_own word place
+
+abbrev pub is_any_first : List ℕ → List (ScriptVerb × List Place) → Bool
+is_any_first word rows = list_any (λ row. is_first word row.1) rows
+
+abbrev pub is_any_third : List ℕ → List (ScriptVerb × List Place) → Bool
+is_any_third word rows = list_any (λ row. is_third word row.1) rows
+
+-- the words with which a line of a script begins, and those with which an event does after its time
+unfoldable pub is_line_word : List ℕ → Bool
+is_line_word word = is_any_first word script_rows
+
+unfoldable pub is_event_word : List ℕ → Bool
+is_event_word word = is_any_third word script_rows
 
 -- a time, alone or with an event after it
 abbrev pub time_word : List (List ℕ) → Option (List ℕ)
@@ -78,9 +102,9 @@ abbrev pub verb_fault : Option (List ℕ) → List ℕ → AtWord ExpectCause
 verb_fault None verb = if bytes_eq verb (codes "label") then at_word 1 Word else at_word 0 Word
 verb_fault (Some label) verb = at_word 2 Word
 
--- a pulse, a pull or a level of the pin without a label, and the end of a script
+-- a line of a script that is no event, without a label
 abbrev pub is_passed : Option (List ℕ) → List ℕ → Bool
-is_passed None verb = bytes_eq verb (codes "pulse") || bytes_eq verb (codes "pull") || bytes_eq verb (codes "pin") || bytes_eq verb (codes "end")
+is_passed None verb = is_line_word verb
 is_passed (Some label) verb = false
 
 abbrev pub kind_fault : Option (List ℕ) → List (List ℕ) → Option (AtWord ExpectCause)

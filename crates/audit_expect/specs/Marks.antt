@@ -1,7 +1,8 @@
--- What is judged of a capture (own): an event for each instant with a name, and a round for each reading.
+-- What is judged of a capture (own): an event for each instant with a name, and a round for each reading, shown in a form.
 use Rattle.std.specs.Prelude.{ℕ, ◌+◌, map, List, [], ◌∷◌, ◌++◌, Option, Some, None}
 use Rattle.text_core.specs.Lines.{lines_of}
 use Rattle.line_reading.specs.Readings.{Listed}
+use Rattle.record_core.specs.declared.cell.Form.{Form}
 use Rattle.capture_core.specs.Edges.{Captured}
 use Rattle.capture_monitor.specs.Watch.{as_file, file_readings, reading_as}
 use Rattle.expect_judge.specs.Told.{EventLine, RoundLine, Told}
@@ -20,14 +21,14 @@ marks_from number (line ∷ lines) = mark_of number (instant_of line) ++ marks_f
 abbrev pub marks : List ℕ → List EventLine
 marks text = marks_from 1 (lines_of text)
 
-abbrev pub listed_told : Listed → RoundLine
-listed_told x = reading_told (reading_as x)
+abbrev pub listed_told : Form → Listed → RoundLine
+listed_told form x = reading_told form (reading_as x)
 
-abbrev pub rounds_told : Captured → List RoundLine
-rounds_told capture = map listed_told (file_readings (as_file capture))
+abbrev pub rounds_told : Form → Captured → List RoundLine
+rounds_told form capture = map (listed_told form) (file_readings (as_file capture))
 
-abbrev pub capture_told : List ℕ → Captured → Told
-capture_told text capture = record { rounds = rounds_told capture; events = marks text }
+abbrev pub capture_told : Form → List ℕ → Captured → Told
+capture_told form text capture = record { rounds = rounds_told form capture; events = marks text }
 
 -- no line speaks of a state
 abbrev pub no_states : List ℕ → List (List ℕ)

@@ -4,7 +4,7 @@ use Rattle.std.specs.Prelude.{ℕ, ◌+◌, ◌==◌, Bool, if◌then◌else◌,
 use Rattle.std.specs.Str.{bytes_eq}
 use Rattle.std.specs.List.{flat_map, list_any}
 use Rattle.text_core.specs.Lines.{lines_of}
-use Rattle.json_trace.specs.Parts.{after_word, word}
+use Rattle.text_core.specs.Words.{text_of, words_of}
 use Rattle.audit_notes.specs.declared.note.AuditNote.{AuditNote}
 use Rattle.text_core.specs.At.{at_word}
 use Rattle.expect_text.specs.Faults.{fault_or}
@@ -15,6 +15,7 @@ use Rattle.text_core.specs.declared.at.AtWord.{AtWord}
 use Rattle.expect_text.specs.declared.form.ExpectCause.{ExpectCause}
 use Rattle.text_core.specs.declared.at.At.{At}
 use Rattle.expect_text.specs.declared.form.ExpectCause.TheVariants.{Word, Pattern, Unmet}
+use Rattle.record_core.specs.declared.cell.Form.{Form}
 use Rattle.expect_run.specs.Report.{Report, with_remarks, with_test}
 use Rattle.audit_expect.specs.declared.wanted.WantedRemarks.{WantedRemarks as WantedRead}
 use Rattle.audit_expect.specs.declared.wanted.WantedRemarks.TheVariants as wants
@@ -38,8 +39,13 @@ wanted_by how rest =
     else None
 
 -- what a line expects of remarks
+abbrev pub wanted_in : List (List ℕ) → Option WantedRemarks
+wanted_in [] = None
+wanted_in (verb ∷ []) = None
+wanted_in (verb ∷ how ∷ words) = if bytes_eq verb (codes "expect") then wanted_by how (text_of words) else None
+
 abbrev pub wanted_of : List ℕ → Option WantedRemarks
-wanted_of line = if bytes_eq (word line) (codes "expect") then wanted_by (word (after_word line)) (after_word (after_word line)) else None
+wanted_of line = wanted_in (words_of line)
 
 -- some line expects something of them
 abbrev pub is_any_wanted : List (List ℕ) → Bool
@@ -92,12 +98,12 @@ abbrev pub seen_of : List AuditNote → WantedRemarks → List AuditNote
 seen_of remarks (NoRemark pattern) = remarks_met (pattern_in pattern) remarks
 seen_of remarks (Remark pattern) = remarks
 
-abbrev pub with_wanted : List AuditNote → Report → ℕ → List ℕ → Option WantedRemarks → Report
-with_wanted remarks r number line None = r
-with_wanted remarks r number line (Some wanted) =
-    with_remarks (with_test r (holds_of remarks wanted) number [] line) (holds_of remarks wanted) (shown_remarks (seen_of remarks wanted))
+abbrev pub with_wanted : Form → List AuditNote → Report → ℕ → List ℕ → Option WantedRemarks → Report
+with_wanted form remarks r number line None = r
+with_wanted form remarks r number line (Some wanted) =
+    with_remarks (with_test form r (holds_of remarks wanted) number line) (holds_of remarks wanted) (shown_remarks form (seen_of remarks wanted))
 
 -- of these lines, of which the first has this number
-abbrev pub with_wanted_lines : List AuditNote → Report → ℕ → List (List ℕ) → Report
-with_wanted_lines remarks r number [] = r
-with_wanted_lines remarks r number (line ∷ lines) = with_wanted_lines remarks (with_wanted remarks r number line (wanted_of line)) (number + 1) lines
+abbrev pub with_wanted_lines : Form → List AuditNote → Report → ℕ → List (List ℕ) → Report
+with_wanted_lines form remarks r number [] = r
+with_wanted_lines form remarks r number (line ∷ lines) = with_wanted_lines form remarks (with_wanted form remarks r number line (wanted_of line)) (number + 1) lines

@@ -15,6 +15,7 @@ use capture_core::Capture;
 use expect_judge::{EventLine, KeptRound, Told, rounds_kept};
 use expect_run::{ReportDraft, Tally, add_plan, open_report, tally_of};
 use expect_text::ExpectCause;
+use record_core::Form;
 use std::alloc::{AllocError, Global};
 use text_core::{At, Sink, put_all};
 use thiserror::Error;
@@ -35,53 +36,56 @@ pub enum CaptureCheckError {
 // The tests of expectations of readings, by these rounds and events.
 fn tests_of<'a>(
     alloc: Global,
+    form: Form,
     expectations: &[u8],
     kept: &'a [KeptRound],
     events: &'a [EventLine<'static>],
 ) -> Result<ReportDraft, AllocError>
-    ensures { IfOk result (λ draft. report_as draft ≡ tests expectations.now (record { rounds = map kept_as kept.now; events = map event_as events.now }) (no_states expectations.now)) }
+    ensures { IfOk result (λ draft. report_as draft ≡ tests form expectations.now (record { rounds = map kept_as kept.now; events = map event_as events.now }) (no_states expectations.now) (no_states expectations.now)) }
 {
     let rounds = rounds_kept(alloc, kept)?;
     let told = Told {
         rounds: &rounds,
         events,
     };
-    let draft = open_report(alloc, expectations, &told, &[])?;
+    let draft = open_report(alloc, form, expectations, &told, &[], &[])?;
     Ok(draft)
 }
 
 // The tests of expectations of readings.
 fn reading_tests(
     alloc: Global,
+    form: Form,
     expectations: &[u8],
     capture: &Capture,
 ) -> Result<ReportDraft, AllocError>
-    ensures { IfOk result (λ draft. report_as draft ≡ reading_tests expectations.now capture.now) }
+    ensures { IfOk result (λ draft. report_as draft ≡ reading_tests form expectations.now capture.now) }
 {
-    let kept = rounds_told(alloc, capture)?;
+    let kept = rounds_told(alloc, form, capture)?;
     let events = marks(alloc, expectations)?;
-    let draft = tests_of(alloc, expectations, &kept, &events)?;
+    let draft = tests_of(alloc, form, expectations, &kept, &events)?;
     Ok(draft)
 }
 
 // The report; `plain` are the expectations of readings.
 fn report_of(
     alloc: Global,
+    form: Form,
     expectations: &[u8],
     plain: &[u8],
     capture: &Capture,
 ) -> Result<ReportDraft, AllocError>
     requires { plain.now ≡ plain_text expectations.now }
-    ensures { IfOk result (λ draft. report_as draft ≡ capture_report expectations.now capture.now) }
+    ensures { IfOk result (λ draft. report_as draft ≡ capture_report form expectations.now capture.now) }
 {
-    let mut draft = reading_tests(alloc, plain, capture)?;
-    add_wanted(alloc, &mut draft, expectations, capture)?;
-    add_plan(&mut draft)?;
+    let mut draft = reading_tests(alloc, form, plain, capture)?;
+    add_wanted(alloc, &mut draft, form, expectations, capture)?;
+    add_plan(&mut draft, form)?;
     Ok(draft)
 }
 
-/// Writes the report of whether the readings of a capture are as the expectations have it, as `check` writes that of a run. The
-/// lines of the expectations are those of a script, with `label NAME at T` in place of events: it names an instant. After them stand
+/// Writes the report of whether the readings of a capture are as the expectations have it, or its objects, as `check` writes that of a
+/// run. The lines of the expectations are those of a script, with `label NAME at T` in place of events: it names an instant. After them stand
 /// the tests of the remarks of its audit, `expect no-remark` and `expect remark PATTERN`. The report, what the readings say and,
 /// where they are spoken of, the remarks are held in memory.
 ///
@@ -91,14 +95,15 @@ fn report_of(
 /// reports.
 pub fn check_capture<S: Sink>(
     alloc: Global,
+    form: Form,
     expectations: &[u8],
     capture: &Capture,
     out: &mut S,
 ) -> Result<Tally, CaptureCheckError>
-    ensures ok { IfOk result (IsCaptureChecked expectations.now capture.now (S.contents out.old) (S.contents out.new)) }
+    ensures ok { IfOk result (IsCaptureChecked form expectations.now capture.now (S.contents out.old) (S.contents out.new)) }
     ensures reported { IfErr result (IsCaptureReported expectations.now) }
     ensures write { S.is_stuck out.old ≡ false → (IsTrue (is_write result) ↔ IsTrue (S.is_stuck out.new)) }
-    ensures cut { IfErr result (IsCaptureCut expectations.now capture.now (S.contents out.old) (S.contents out.new)) }
+    ensures cut { IfErr result (IsCaptureCut form expectations.now capture.now (S.contents out.old) (S.contents out.new)) }
 {
     let Ok(plain) = plain_text(alloc, expectations) else {
         return Err(CaptureCheckError::Memory);
@@ -110,7 +115,7 @@ pub fn check_capture<S: Sink>(
         Some(fault) => return Err(CaptureCheckError::Expect(fault)),
         None => {}
     }
-    let Ok(report) = report_of(alloc, expectations, &plain, capture) else {
+    let Ok(report) = report_of(alloc, form, expectations, &plain, capture) else {
         return Err(CaptureCheckError::Memory);
     };
     match put_all(out, report.text.bytes()) {

@@ -1,17 +1,19 @@
 //! Lines of expectations of a capture, and the first one at fault.
-ghost use Rattle.std.specs.Prelude.{◌≡◌, IfOk};
+ghost use Rattle.std.specs.Prelude.{◌≡◌, IfOk, map};
 ghost use Rattle.std.specs.Option.{option_copied, option_map};
 ghost use Rattle.text_core.specs.Lines.{lines_of};
 ghost use Rattle.text_core.specs.Words.{words_after};
 ghost use Rattle.expect_text.specs.Fault.{after_label};
-ghost use Rattle.audit_expect.specs.Lines.{event_fault, expectation_fault, instant_fault, instant_of, is_event_word, is_of_run, is_passed, kind_fault, line_fault, named_fault, number_by, time_fault, time_word, verb_fault};
+ghost use Rattle.audit_expect.specs.Lines.{event_fault, expectation_fault, instant_fault, instant_of, is_any_first, is_any_third, is_event_word, is_first, is_line_word, is_of_run, is_own, is_third, is_passed, kind_fault, line_fault, named_fault, number_by, time_fault, time_word, verb_fault};
 ghost use Rattle.audit_expect.specs.Wanted.{plain_text};
 ghost use Rattle.audit_expect.specs.Faults.{earlier, first_fault, kinds_from, readings_fault};
 
 use crate::wanted::wanted_fault_in;
 use expect_text::{ExpectCause, after_label, exact_number, has_verb, unlabelled};
+use room_lines::{SCRIPT, ScriptVerb};
 use std::alloc::{AllocError, Global};
 use text_core::{At, AtWord, at_word, first_line, first_word, is_skipped};
+use text_forms::Slot;
 
 fn number_by(word: Option<&[u8]>) -> Option<u64>
     ensures { result ≡ number_by (option_copied word.entry) }
@@ -19,17 +21,68 @@ fn number_by(word: Option<&[u8]>) -> Option<u64>
     exact_number(word?)
 }
 
+// Whether a place of a form has this word itself.
+fn is_own(place: (Slot, &str), word: &[u8]) -> bool
+    ensures { result ≡ is_own word.now (place.entry.0, place.entry.1.now) }
+{
+    match place.0 {
+        Slot::Word | Slot::Key => place.1.as_bytes() == word,
+        _ => false,
+    }
+}
+
+// Whether a form begins with this word.
+fn is_first(form: &[(Slot, &str)], word: &[u8]) -> bool
+    ensures { result ≡ is_first word.now (map (λ p. (p.0, p.1.now)) form.now) }
+{
+    match form {
+        [place, _others @ ..] => is_own(*place, word),
+        _ => false,
+    }
+}
+
+// Whether a form has this word after its time.
+fn is_third(form: &[(Slot, &str)], word: &[u8]) -> bool
+    ensures { result ≡ is_third word.now (map (λ p. (p.0, p.1.now)) form.now) }
+{
+    match form {
+        [_at, _time, place, _others @ ..] => is_own(*place, word),
+        _ => false,
+    }
+}
+
+fn is_first_of_any(forms: &[(ScriptVerb, &[(Slot, &str)])], word: &[u8]) -> bool
+    ensures { result ≡ is_any_first word.now (map (λ r. (r.0, map (λ p. (p.0, p.1.now)) r.1.now)) forms.now) }
+{
+    match forms {
+        [form, others @ ..] => is_first(form.1, word) || is_first_of_any(others, word),
+        _ => false,
+    }
+}
+
+fn is_third_of_any(forms: &[(ScriptVerb, &[(Slot, &str)])], word: &[u8]) -> bool
+    ensures { result ≡ is_any_third word.now (map (λ r. (r.0, map (λ p. (p.0, p.1.now)) r.1.now)) forms.now) }
+{
+    match forms {
+        [form, others @ ..] => is_third(form.1, word) || is_third_of_any(others, word),
+        _ => false,
+    }
+}
+
+// Whether a line of a script begins with this word.
+#[tactic(auto, unfolding(crate::specs::Lines::is_line_word))]
+fn is_line_word(word: &[u8]) -> bool
+    ensures { result ≡ is_line_word word.now }
+{
+    is_first_of_any(SCRIPT, word)
+}
+
 // Whether an event of a script begins with this word after its time.
+#[tactic(auto, unfolding(crate::specs::Lines::is_event_word))]
 fn is_event_word(word: &[u8]) -> bool
     ensures { result ≡ is_event_word word.now }
 {
-    word == b"plug".as_slice()
-        || word == b"unplug".as_slice()
-        || word == b"press".as_slice()
-        || word == b"release".as_slice()
-        || word == b"send".as_slice()
-        || word == b"hold".as_slice()
-        || word == b"drop".as_slice()
+    is_third_of_any(SCRIPT, word)
 }
 
 // A time, alone or with an event after it.
@@ -153,12 +206,7 @@ fn is_passed(label: Option<&[u8]>, verb: &[u8]) -> bool
     ensures { result ≡ is_passed (option_copied label.entry) verb.now }
 {
     match label {
-        None => {
-            verb == b"pulse".as_slice()
-                || verb == b"pull".as_slice()
-                || verb == b"pin".as_slice()
-                || verb == b"end".as_slice()
-        }
+        None => is_line_word(verb),
         Some(_) => false,
     }
 }

@@ -12,6 +12,7 @@ use audit_notes::AuditNote;
 use capture_core::Capture;
 use expect_remarks::{append_remarks, audit_remarks, is_any_met, remarks_met};
 use expect_run::{ReportDraft, add_test};
+use record_core::Form;
 use std::alloc::{AllocError, Global};
 use text_core::first_line;
 
@@ -27,40 +28,43 @@ fn pattern_in(pattern: &[u8]) -> Option<&[u8]>
 
 // Appends the test of a line, and below it, where it failed, the first eight of these remarks.
 fn add_shown(
+    alloc: Global,
     draft: &mut ReportDraft,
+    form: Form,
     holds: bool,
     number: u64,
     line: &[u8],
     remarks: &[AuditNote],
 ) -> Result<(), AllocError>
-    ensures { OnOk result (report_as draft.new ≡ with_remarks (with_test (report_as draft.old) holds number [] line.now) holds (shown_remarks remarks.now)) }
+    ensures { OnOk result (report_as draft.new ≡ with_remarks (with_test form (report_as draft.old) holds number line.now) holds (shown_remarks form remarks.now)) }
 {
-    add_test(draft, holds, number, "", line)?;
+    add_test(draft, form, holds, number, line)?;
     if holds {
         return Ok(());
     }
-    append_remarks(&mut draft.text, remarks)
+    append_remarks(alloc, &mut draft.text, form, remarks)
 }
 
 // The same of what a line expects.
 fn add_test_of(
     alloc: Global,
     draft: &mut ReportDraft,
+    form: Form,
     remarks: &[AuditNote],
     number: u64,
     line: &[u8],
     wanted: WantedRemarks,
 ) -> Result<(), AllocError>
-    ensures { OnOk result (report_as draft.new ≡ with_wanted remarks.now (report_as draft.old) number line.now (Some (wanted_as wanted.entry))) }
+    ensures { OnOk result (report_as draft.new ≡ with_wanted form remarks.now (report_as draft.old) number line.now (Some (wanted_as wanted.entry))) }
 {
     match wanted {
         WantedRemarks::NoRemark(pattern) => {
             let met = remarks_met(alloc, remarks, pattern_in(pattern))?;
-            add_shown(draft, met.is_empty(), number, line, &met)
+            add_shown(alloc, draft, form, met.is_empty(), number, line, &met)
         }
         WantedRemarks::Remark(pattern) => {
             let holds = is_any_met(alloc, remarks, pattern)?;
-            add_shown(draft, holds, number, line, remarks)
+            add_shown(alloc, draft, form, holds, number, line, remarks)
         }
     }
 }
@@ -69,31 +73,33 @@ fn add_test_of(
 fn add_line(
     alloc: Global,
     draft: &mut ReportDraft,
+    form: Form,
     remarks: &[AuditNote],
     number: u64,
     line: &[u8],
 ) -> Result<(), AllocError>
-    ensures { OnOk result (report_as draft.new ≡ with_wanted remarks.now (report_as draft.old) number line.now (wanted_of line.now)) }
+    ensures { OnOk result (report_as draft.new ≡ with_wanted form remarks.now (report_as draft.old) number line.now (wanted_of line.now)) }
 {
     let Some(wanted) = wanted_of(line) else {
         return Ok(());
     };
-    add_test_of(alloc, draft, remarks, number, line, wanted)
+    add_test_of(alloc, draft, form, remarks, number, line, wanted)
 }
 
 // Appends the tests of the lines that expect something of remarks.
 fn add_lines(
     alloc: Global,
     draft: &mut ReportDraft,
+    form: Form,
     remarks: &[AuditNote],
     text: &[u8],
 ) -> Result<(), AllocError>
-    ensures { OnOk result (report_as draft.new ≡ with_wanted_lines remarks.now (report_as draft.old) 1 (lines_of text.now)) }
+    ensures { OnOk result (report_as draft.new ≡ with_wanted_lines form remarks.now (report_as draft.old) 1 (lines_of text.now)) }
 {
     let mut rest = text;
     let mut number = 1u64;
     'lines: while let Some((line, after)) = first_line(rest) {
-        add_line(alloc, draft, remarks, number, line)?;
+        add_line(alloc, draft, form, remarks, number, line)?;
         rest = after;
         number += 1;
     }
@@ -108,14 +114,15 @@ fn add_lines(
 pub(crate) fn add_wanted(
     alloc: Global,
     draft: &mut ReportDraft,
+    form: Form,
     text: &[u8],
     capture: &Capture,
 ) -> Result<(), AllocError>
-    ensures { OnOk result (report_as draft.new ≡ with_wanted_lines (audit_remarks capture.now) (report_as draft.old) 1 (lines_of text.now)) }
+    ensures { OnOk result (report_as draft.new ≡ with_wanted_lines form (audit_remarks capture.now) (report_as draft.old) 1 (lines_of text.now)) }
 {
     if !is_any_wanted(text) {
         return Ok(());
     }
     let remarks = audit_remarks(alloc, capture)?;
-    add_lines(alloc, draft, &remarks, text)
+    add_lines(alloc, draft, form, &remarks, text)
 }

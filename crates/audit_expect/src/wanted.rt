@@ -4,10 +4,10 @@ ghost use Rattle.std.specs.Option.{option_map};
 ghost use Rattle.text_core.specs.Lines.{lines_of};
 ghost use Rattle.audit_expect.specs.Wanted.{is_any_wanted, pattern_fault, plain_line, plain_text, unremarked_fault, wanted_as, wanted_by, wanted_fault, wanted_faults, wanted_of};
 
+use expect_remarks::text_left;
 use expect_text::{ExpectCause, is_pattern, is_remark_called};
-use json_trace::{after_word, word};
 use std::alloc::{AllocError, Global};
-use text_core::{At, AtWord, at_word, first_line};
+use text_core::{At, AtWord, at_word, first_line, first_word};
 
 /// What a line expects of the remarks of an audit.
 #[derive(Clone, Copy, Debug)]
@@ -34,9 +34,10 @@ fn wanted_by<'a>(how: &[u8], rest: &'a [u8]) -> Option<WantedRemarks<'a>>
 pub(crate) fn wanted_of(line: &[u8]) -> Option<WantedRemarks<'_>>
     ensures { option_map wanted_as result ≡ wanted_of line.now }
 {
-    if word(line) == b"expect".as_slice() {
-        let rest = after_word(line);
-        wanted_by(word(rest), after_word(rest))
+    let (verb, rest) = first_word(line);
+    let (how, others) = first_word(rest?);
+    if verb == b"expect".as_slice() {
+        wanted_by(how, text_left(others))
     } else {
         None
     }

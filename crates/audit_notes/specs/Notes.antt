@@ -16,6 +16,8 @@ use Rattle.audit_remarks.specs.declared.requests.Request.{Request}
 use Rattle.audit_remarks.specs.declared.series.BadStartSeries.{BadStartSeries}
 use Rattle.audit_remarks.specs.declared.sources.Mention.{Mention}
 use Rattle.message_text.specs.FrameText.{opcode_text}
+use Rattle.audit_judged.specs.declared.widths.Party.{Party}
+use Rattle.piece_notes.specs.Notes.{cause_words, own_cells as ending_cells, who_cells}
 use Rattle.record_core.specs.Cells.{PlainCell, both, hidden, line_only}
 use Rattle.record_core.specs.Values.{hex_byte, nibble, nothing, number, phys, text}
 use Rattle.record_core.specs.Records.{record_text}
@@ -24,7 +26,7 @@ use Rattle.audit_notes.specs.Kinds.{name_of, section_of, type_of}
 use Rattle.audit_notes.specs.declared.kind.NoteKind.{NoteKind}
 use Rattle.audit_notes.specs.declared.kind.NoteKind.TheVariants as kinds
 use Rattle.audit_notes.specs.declared.note.AuditNote.{AuditNote}
-use Rattle.audit_notes.specs.declared.note.AuditNote.TheVariants.{BadStarts, NoAnswer, LateAnswer, Free, Misfit as MisfitNote, LowDrive, DriveWithin, Unfinished, Attempt, Moved, Receivers as ReceiversNote, Operands, Unreported, Read, Summary, Sender, Widths}
+use Rattle.audit_notes.specs.declared.note.AuditNote.TheVariants.{BadStarts, NoAnswer, LateAnswer, Free, Misfit as MisfitNote, LowDrive, DriveWithin, Unfinished, Attempt, GoesOn, Ending, Cause, Moved, Receivers as ReceiversNote, Operands, Unreported, Read, Summary, Sender, Widths}
 use Rattle.audit_notes.specs.declared.note.WidthSummary.{WidthSummary}
 use Rattle.audit_notes.specs.declared.note.SpreadKind.{SpreadKind}
 use Rattle.audit_notes.specs.declared.note.SpreadKind.TheVariants as spreads
@@ -55,6 +57,9 @@ kind_of (LowDrive width) = kinds.LowDrive
 kind_of (DriveWithin width) = kinds.DriveWithin
 kind_of (Unfinished block) = kinds.Unfinished
 kind_of (Attempt f) = attempt_kind f
+kind_of (GoesOn block who) = kinds.GoesOn
+kind_of (Ending r who) = kinds.Ending r
+kind_of (Cause c) = kinds.Cause c
 kind_of (Moved initiator before) = kinds.Moved
 kind_of (ReceiversNote r) = kinds.Receivers
 kind_of (Operands m) = kinds.Operands
@@ -214,6 +219,10 @@ count_cells initiator c =
     both (codes "  from ") (codes "initiator") (nibble initiator) ∷ both (codes ": ") (codes "taken") (number c.taken)
     ∷ both (codes " taken, ") (codes "not_taken") (number c.untaken) ∷ both (codes " not taken, ") (codes "broken") (number c.broken) ∷ said_so (codes " broken") ∷ []
 
+-- a frame that goes on after a block that was not taken: `  goes on after block 1, which was not taken, by initiator 4`
+abbrev pub goes_on_cells : ℕ → Party → List PlainCell
+goes_on_cells block who = both (codes "  goes on after block ") (codes "block") (number block) ∷ said_so (codes ", which was not taken,") ∷ who_cells who
+
 abbrev pub own_cells : AuditNote → List PlainCell
 own_cells (BadStarts s) = series_cells s
 own_cells (NoAnswer r) = request_cells r
@@ -224,6 +233,9 @@ own_cells (LowDrive width) = drive_cells width
 own_cells (DriveWithin width) = within_cells width
 own_cells (Unfinished block) = unfinished_cells block
 own_cells (Attempt f) = failure_cells f
+own_cells (GoesOn block who) = goes_on_cells block who
+own_cells (Ending r who) = ending_cells r ++ who_cells who
+own_cells (Cause c) = said_so (cause_words c) ∷ []
 own_cells (Moved initiator before) = moved_cells initiator before
 own_cells (ReceiversNote r) = receivers_cells r
 own_cells (Operands m) = missing_cells m

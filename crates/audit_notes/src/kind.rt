@@ -2,6 +2,9 @@
 ghost use Rattle.std.specs.Prelude.{◌≡◌};
 ghost use Rattle.audit_notes.specs.Kinds.{is_note, is_remark, name_of, section_of, type_of};
 
+use audit_judged::{Cause, EndingRemark};
+use piece_notes::{cause_name, cause_section, ending_name, ending_section};
+
 /// What a line of an audit says of readings.
 #[derive(Clone, Copy, Debug, PartialEq, Eq)]
 pub enum NoteKind {
@@ -28,6 +31,11 @@ pub enum NoteKind {
     /// A block that was not acknowledged, or was refused; and one after the sixth attempt.
     Attempt,
     LastAttempt,
+    /// A frame that goes on after a block that was not taken.
+    GoesOn,
+    /// How a frame ends; and why, where the standard has nothing against it.
+    Ending(EndingRemark),
+    Cause(Cause),
     /// A device with two physical addresses.
     Moved,
     /// A message that came to others than it is for.
@@ -67,6 +75,9 @@ impl NoteKind {
             NoteKind::Unfinished => "unfinished",
             NoteKind::Attempt => "attempt",
             NoteKind::LastAttempt => "too-many-attempts",
+            NoteKind::GoesOn => "goes-on",
+            NoteKind::Ending(remark) => ending_name(remark),
+            NoteKind::Cause(cause) => cause_name(cause),
             NoteKind::Moved => "moved",
             NoteKind::Receivers => "receivers",
             NoteKind::Operands => "operands",
@@ -90,7 +101,9 @@ impl NoteKind {
             NoteKind::BitLow | NoteKind::BitTotal => "5.2.2",
             NoteKind::LowDrive | NoteKind::DriveWithin => "7.4",
             NoteKind::Unfinished | NoteKind::Attempt => "6.1.2",
-            NoteKind::LastAttempt => "7.1",
+            NoteKind::LastAttempt | NoteKind::GoesOn => "7.1",
+            NoteKind::Ending(remark) => ending_section(remark),
+            NoteKind::Cause(cause) => cause_section(cause),
             NoteKind::Moved => "10.1",
             NoteKind::Receivers | NoteKind::Operands => "13",
             NoteKind::Unreported => "11.2",
@@ -103,7 +116,7 @@ impl NoteKind {
         }
     }
 
-    /// Whether the standard has it otherwise. A block that nobody takes, a device that moves, an address that nobody reported in
+    /// Whether the standard has it otherwise. A block that nobody takes, a frame that ends for a lawful cause, a device that moves, an address that nobody reported in
     /// this capture and bad starts are no faults of anybody.
     pub fn is_remark(self) -> bool
         ensures { result ≡ is_remark self }
@@ -120,10 +133,13 @@ impl NoteKind {
             | NoteKind::DriveWithin
             | NoteKind::Unfinished
             | NoteKind::LastAttempt
+            | NoteKind::GoesOn
+            | NoteKind::Ending(_)
             | NoteKind::Receivers
             | NoteKind::Operands => true,
             NoteKind::BadStarts
             | NoteKind::Attempt
+            | NoteKind::Cause(_)
             | NoteKind::Moved
             | NoteKind::Unreported
             | NoteKind::Read

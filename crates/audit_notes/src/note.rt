@@ -3,6 +3,7 @@ ghost use Rattle.std.specs.Prelude.{◌≡◌};
 ghost use Rattle.audit_notes.specs.Notes.{attempt_kind, kind_of, misfit_kind, spread_name};
 
 use crate::kind::NoteKind;
+use audit_judged::{Cause, EndingRemark, Party};
 use audit_remarks::{
     BadStartSeries, Failure, FrameCount, FrameHead, Mention, Missing, Receivers, Request, TooSoon,
 };
@@ -67,6 +68,12 @@ pub enum AuditNote {
     Unfinished(usize),
     /// A block that was not acknowledged, or was refused.
     Attempt(Failure),
+    /// A frame that goes on after this block, which was not taken, and who is at fault.
+    GoesOn(usize, Party),
+    /// How a frame ends, and who is at fault.
+    Ending(EndingRemark, Party),
+    /// Why a frame ends though the standard has nothing against it.
+    Cause(Cause),
     /// The device of this logical address reported this physical one before.
     Moved(u8, Phys),
     /// A message came to others than it is for.
@@ -123,6 +130,9 @@ impl AuditNote {
             AuditNote::DriveWithin(_) => NoteKind::DriveWithin,
             AuditNote::Unfinished(_) => NoteKind::Unfinished,
             AuditNote::Attempt(failure) => attempt_kind(failure),
+            AuditNote::GoesOn(_, _) => NoteKind::GoesOn,
+            AuditNote::Ending(remark, _) => NoteKind::Ending(remark),
+            AuditNote::Cause(cause) => NoteKind::Cause(cause),
             AuditNote::Moved(_, _) => NoteKind::Moved,
             AuditNote::Receivers(_) => NoteKind::Receivers,
             AuditNote::Operands(_) => NoteKind::Operands,

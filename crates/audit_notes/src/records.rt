@@ -14,6 +14,7 @@ use audit_remarks::{
 };
 use audit_widths::{DRIVE, Misfit, SlotWidth};
 use message_text::opcode_text;
+use piece_notes::{add_cause, add_ending, add_goes_on};
 use record_core::{Cell, Form, Value, add_record, cell};
 use text_core::{Counted, Phys, Piece, Sink};
 
@@ -424,6 +425,9 @@ pub(crate) fn add_note<S: Sink>(out: &mut Counted<'_, S>, form: Form, note: Audi
         AuditNote::DriveWithin(width) => add_within(out, form, width),
         AuditNote::Unfinished(block) => add_unfinished(out, form, block),
         AuditNote::Attempt(failure) => add_attempt(out, form, failure),
+        AuditNote::GoesOn(block, who) => add_goes_on(out, form, block, who),
+        AuditNote::Ending(remark, who) => add_ending(out, form, remark, who),
+        AuditNote::Cause(cause) => add_cause(out, form, cause),
         AuditNote::Moved(initiator, before) => add_moved(out, form, initiator, before),
         AuditNote::Receivers(receivers) => add_receivers(out, form, receivers),
         AuditNote::Operands(missing) => add_missing(out, form, missing),

@@ -6,6 +6,7 @@ use Rattle.line_frames.specs.declared.free_time.FreeTime.TheVariants.{Retry, New
 use Rattle.line_frames.specs.declared.Ending.{Ending}
 use Rattle.line_frames.specs.declared.Ending.TheVariants.{BadStart, Short}
 use Rattle.line_reading.specs.Readings.{Listed}
+use Rattle.message_text.specs.ReadingText.{is_complete}
 use Rattle.audit_widths.specs.declared.low.Low.{Low}
 use Rattle.audit_remarks.specs.declared.free.EarlierSender.{EarlierSender}
 use Rattle.audit_remarks.specs.declared.free.EarlierSender.TheVariants.{Nothing, Somebody, Frame}
@@ -40,12 +41,12 @@ is_bad_start BadStart = true
 is_bad_start _ = false
 
 abbrev pub no_previous : Previous
-no_previous = record { frame = Nothing; final_bit = 0 }
+no_previous = record { frame = Nothing; final_bit = 0; whole = false }
 
 -- a bad start is no frame (own)
 abbrev pub previous_with : Previous → Listed → List Low → Previous
 previous_with p x lows =
-    if is_bad_start x.reported.ending then p else record { frame = before_of x.reported.ending x.reported.bits; final_bit = final_bit x lows }
+    if is_bad_start x.reported.ending then p else record { frame = before_of x.reported.ending x.reported.bits; final_bit = final_bit x lows; whole = is_complete x.reported.ending }
 
 -- ---- the free time
 

@@ -2,6 +2,7 @@ pub mod Header
 pub mod Attempts
 pub mod Free
 pub mod Series
+pub mod Endings
 pub mod Counts
 pub mod Frames
 pub mod Requests

@@ -1,9 +1,10 @@
 //! The signal free time before a frame (CEC 9.1).
 ghost use Rattle.std.specs.Prelude.{◌≡◌, ◌≤◌, length};
 ghost use Rattle.line_reading.specs.Reports.{listed_as};
+ghost use Rattle.audit_remarks.specs.Endings.{is_nothing};
 ghost use Rattle.audit_remarks.specs.Free.{before_of, due_after, final_bit, final_by, free_before, free_due, is_bad_start, is_known, last_fall, no_previous, previous_with, too_soon};
 
-use crate::header::{HEADER, initiator_of, is_delivered, seeks_address};
+use crate::header::{HEADER, initiator_of, is_complete, is_delivered, seeks_address};
 use audit_widths::Low;
 use line_frames::{Addr, Ending, FreeTime, Reading};
 
@@ -24,6 +25,8 @@ pub struct Previous {
     frame: EarlierSender,
     // where its final bit began
     final_bit: u64,
+    // whether it was read whole
+    whole: bool,
 }
 
 /// A frame that came too soon: how long the line was free, and was to be, from the start of the final bit before it.
@@ -125,7 +128,25 @@ impl Previous {
         Previous {
             frame: EarlierSender::Nothing,
             final_bit: 0,
+            whole: false,
         }
+    }
+
+    /// Whether no frame was before it.
+    pub(crate) fn is_nothing(self) -> bool
+        ensures { result ≡ is_nothing self.frame }
+    {
+        match self.frame {
+            EarlierSender::Nothing => true,
+            EarlierSender::Somebody | EarlierSender::Frame(_, _) => false,
+        }
+    }
+
+    /// Whether it was read whole.
+    pub(crate) fn is_whole(self) -> bool
+        ensures { result ≡ self.whole }
+    {
+        self.whole
     }
 
     /// How long the line was free before an instant: since the start of the final bit.
@@ -157,6 +178,7 @@ impl Previous {
         Previous {
             frame: EarlierSender::of(reading.ending, &reading.bits),
             final_bit: final_bit(reading, lows),
+            whole: is_complete(reading.ending),
         }
     }
 }

@@ -20,8 +20,8 @@ pub struct FrameHead {
 /// The bits of a header's initiator and destination (CEC 6.1.1).
 pub(crate) const HEADER: usize = 8;
 
-// A bit that was not read counts as 0.
-fn bit_at(bits: &[bool], k: usize) -> bool
+/// A bit that was not read counts as 0.
+pub(crate) fn bit_at(bits: &[bool], k: usize) -> bool
     ensures { result ≡ slice_index_or bits.now k false }
 {
     bits.get(k).copied().unwrap_or(false)
@@ -108,7 +108,8 @@ pub(crate) fn failed_block(bits: &[bool]) -> Option<usize>
     None
 }
 
-fn is_complete(ending: Ending) -> bool
+/// Whether a reading is whole.
+pub(crate) fn is_complete(ending: Ending) -> bool
     ensures { result ≡ is_complete ending }
 {
     match ending {

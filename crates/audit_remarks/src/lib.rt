@@ -5,6 +5,7 @@
 
 mod attempts;
 mod counts;
+mod endings;
 mod frames;
 mod free;
 mod header;
@@ -16,6 +17,9 @@ mod sources;
 
 pub use attempts::{Attempts, Failure};
 pub use counts::{Counts, FrameCount, count_reading, no_counts};
+pub use endings::{
+    ending_of, goes_on_after, initiator_read, is_measured, is_stray, last_says, party_of,
+};
 pub use frames::{delivered_frame, sender};
 pub use free::{Previous, TooSoon, is_bad_start};
 pub use header::{FrameHead, head_read, unfinished};

@@ -7,7 +7,8 @@ use Rattle.capture_core.specs.Edges.{Captured}
 use Rattle.capture_monitor.specs.Watch.{captured_by}
 use Rattle.audit_notes.specs.Lines.{AuditLine}
 use Rattle.audit_notes.specs.Lines.AuditLine.{Group, Note, Reading, Word}
-use Rattle.capture_advice.specs.Counts.{Counts, capped, complete_at, complete_in, count_in, count_of, counted_after, most_count, one_more}
+use Rattle.capture_advice.specs.declared.widening.Widening.{Widening}
+use Rattle.capture_advice.specs.Counts.{Counts, IsCounted, ReadsMore, capped, complete_at, complete_in, count_in, count_of, counted_after, most_count, one_more}
 
 zero_more : (n : ℕ) → capped n ≡ capped (n + 0)
 zero_more n = omega arith
@@ -52,9 +53,16 @@ same_windows n margin windows c e counts =
     ap (λ (j : ℕ). capped j) counts ∙ capped_along 0 (map Reading (captured_by windows c)) ∙ zero_first (complete_in (map Reading (captured_by windows c)))
     ∙ ap (λ (w : Windows). capped (complete_in (map Reading (captured_by w c)))) e
 
--- the greater of two counts is of more
-pub more_read : (a b n m : ℕ) → capped a ≡ capped m → a ≤ most_count → capped b ≡ capped n → 0 < a - b → n < m
-more_read a b n m e within f more = omega (arith, e, within, f, more)
+-- what two counts say is what is read
+pub more_counted : (a b n m x : ℕ) → a ≤ most_count → b ≤ most_count → capped a ≡ capped m → capped b ≡ capped n → x ≡ a - b → x ≡ capped m - capped n
+more_counted a b n m x within few e f more = omega (arith, within, few, e, f, more)
 
-pub never : 0 < 0 → ⊥
-never h = omega (arith, h)
+pub none_more : (n : ℕ) → 0 ≡ capped n - capped n
+none_more n = omega arith
+
+more_read : (n m x : ℕ) → x ≡ capped m - capped n → 0 < x → n < m
+more_read n m x e more = omega (arith, e, more)
+
+-- what is counted is more
+pub reads_more : (c : Captured) (w : Widening) → IsCounted c w → ReadsMore c w
+reads_more c w counted = λ more. more_read (complete_at 0 c) (complete_at w.margin c) w.more counted more

@@ -1,5 +1,5 @@
 -- How many complete readings a capture has by windows that are wider (own), and of what a margin is advised.
-use Rattle.std.specs.Prelude.{◌≡◌, ℕ, ◌+◌, ◌<◌, min, List, [], ◌∷◌, map}
+use Rattle.std.specs.Prelude.{◌≡◌, ℕ, ◌+◌, ◌-◌, ◌<◌, min, List, [], ◌∷◌, map}
 use Rattle.line_frames.specs.declared.Ending.{Ending}
 use Rattle.line_frames.specs.declared.Ending.TheVariants.{Complete}
 use Rattle.line_reading.specs.Windows.{wider}
@@ -45,6 +45,10 @@ counted_after n (line ∷ lines) = counted_after (one_more n line) lines
 
 abbrev pub Counts : ℕ → List AuditLine → ℕ → Type 0
 Counts before lines after = after ≡ counted_after before lines
+
+-- So many more readings are complete as is said, of counts that stay at the greatest value.
+abbrev pub IsCounted : Captured → Widening → Type 0
+IsCounted c w = w.more ≡ capped (complete_at w.margin c) - capped (complete_at 0 c)
 
 -- A margin that is advised reads more.
 abbrev pub ReadsMore : Captured → Widening → Type 0

@@ -22,6 +22,29 @@ fn beyond(width: u64, window: Span) -> u64 {
     }
 }
 
+// Whether a margin takes a width into a window that is out of it.
+fn lacks(width: u64, window: Span) -> bool {
+    let lack = beyond(width, window);
+    lack > 0 && lack <= MOST_MARGIN
+}
+
+// Whether a time of a capture is that of a slot by a margin alone. Where none is, no frame lacks one.
+fn has_lack(capture: &Capture) -> bool {
+    let mut fall = 0;
+    for edge in capture.edges() {
+        let width = edge.at.saturating_sub(fall);
+        if edge.low {
+            if lacks(width, STANDARD.start_total) || lacks(width, STANDARD.bit_total) {
+                return true;
+            }
+            fall = edge.at;
+        } else if lacks(width, STANDARD.start_low) {
+            return true;
+        }
+    }
+    false
+}
+
 // The margin with which all times of a piece are in their windows.
 fn lack_of(piece: &Piece) -> u64 {
     let head = piece.parts.head;
@@ -58,6 +81,9 @@ fn add_margin(margins: &mut ArrayVec<u64, MARGINS>, piece: Option<Piece>) {
 pub(crate) fn margins_of(capture: &Capture) -> ArrayVec<u64, MARGINS> {
     let end = capture.end();
     let mut margins = ArrayVec::new();
+    if !has_lack(capture) {
+        return margins;
+    }
     let mut reader = WideReader::new(0);
     let mut since = None;
     for edge in capture.edges() {

@@ -1,7 +1,7 @@
 //! The margin with which most frames of a capture are read.
 ghost use Rattle.std.specs.Prelude.{◌≡◌, ◌-◌, ◌≤◌};
 ghost use Rattle.line_reading.specs.Windows.{most_margin};
-ghost use Rattle.capture_advice.specs.Counts.{ReadsMore, capped, complete_at};
+ghost use Rattle.capture_advice.specs.Counts.{IsCounted, ReadsMore, capped, complete_at, most_count};
 
 use crate::complete::complete_by;
 use crate::lacks::margins_of;
@@ -23,7 +23,7 @@ impl Widening {
 
 // No margin reads more.
 fn none(_capture: &Capture) -> Widening
-    ensures { ReadsMore _capture.now result }
+    ensures { IsCounted _capture.now result }
 {
     Widening { margin: 0, more: 0 }
 }
@@ -43,8 +43,9 @@ fn more_than(count: u64, plain: u64) -> u64
 // A margin, or the one that was best before.
 fn better(capture: &Capture, plain: u64, margin: u64, best: Widening) -> Widening
     requires plain { capped plain ≡ capped (complete_at 0 capture.now) }
-    requires best { ReadsMore capture.now best }
-    ensures { ReadsMore capture.now result }
+    requires within { plain ≤ most_count }
+    requires best { IsCounted capture.now best }
+    ensures { IsCounted capture.now result }
 {
     let margin = at_most(margin);
     let count = complete_by(capture, margin);
@@ -57,8 +58,9 @@ fn better(capture: &Capture, plain: u64, margin: u64, best: Widening) -> Widenin
 
 fn best_of(capture: &Capture, plain: u64, margins: &[u64], best: Widening) -> Widening
     requires plain { capped plain ≡ capped (complete_at 0 capture.now) }
-    requires best { ReadsMore capture.now best }
-    ensures { ReadsMore capture.now result }
+    requires within { plain ≤ most_count }
+    requires best { IsCounted capture.now best }
+    ensures { IsCounted capture.now result }
 {
     let [margin, margins @ ..] = margins else {
         return best;
@@ -67,12 +69,24 @@ fn best_of(capture: &Capture, plain: u64, margins: &[u64], best: Widening) -> Wi
     best_of(capture, plain, margins, best)
 }
 
+// The best of the margins that frames lack.
+fn best_margin(capture: &Capture) -> Widening
+    ensures { IsCounted capture.now result }
+{
+    let margins = margins_of(capture);
+    if margins.is_empty() {
+        return none(capture);
+    }
+    let plain = complete_by(capture, 0);
+    best_of(capture, plain, margins.as_slice(), none(capture))
+}
+
 /// The least of the margins that frames of a capture lack with which most readings are complete, and how many more these are than
 /// without. Where that is 0 no margin reads more.
+#[tactic(auto, using(crate::proofs::Counting::reads_more))]
 pub fn widening_of(capture: &Capture) -> Widening
-    ensures { ReadsMore capture.now result }
+    ensures counted { IsCounted capture.now result }
+    ensures more { ReadsMore capture.now result }
 {
-    let plain = complete_by(capture, 0);
-    let margins = margins_of(capture);
-    best_of(capture, plain, margins.as_slice(), none(capture))
+    best_margin(capture)
 }

@@ -32,7 +32,8 @@ pub(crate) fn width_section(kind: WidthKind) -> &'static str
     }
 }
 
-pub(crate) fn ending_name(remark: EndingRemark) -> &'static str
+/// What a remark of an ending is called.
+pub fn ending_name(remark: EndingRemark) -> &'static str
     ensures { result.now ≡ ending_name remark }
 {
     match remark {
@@ -49,7 +50,8 @@ pub(crate) fn ending_name(remark: EndingRemark) -> &'static str
     }
 }
 
-pub(crate) fn ending_section(remark: EndingRemark) -> &'static str
+/// The section of the standard that a remark of an ending goes by.
+pub fn ending_section(remark: EndingRemark) -> &'static str
     ensures { result.now ≡ ending_section remark }
 {
     match remark {
@@ -63,7 +65,8 @@ pub(crate) fn ending_section(remark: EndingRemark) -> &'static str
     }
 }
 
-pub(crate) fn cause_name(cause: Cause) -> &'static str
+/// What a cause is called.
+pub fn cause_name(cause: Cause) -> &'static str
     ensures { result.now ≡ cause_name cause }
 {
     match cause {
@@ -76,7 +79,8 @@ pub(crate) fn cause_name(cause: Cause) -> &'static str
     }
 }
 
-pub(crate) fn cause_section(cause: Cause) -> &'static str
+/// The section of the standard that a cause goes by, or nothing where the capture cuts.
+pub fn cause_section(cause: Cause) -> &'static str
     ensures { result.now ≡ cause_section cause }
 {
     match cause {

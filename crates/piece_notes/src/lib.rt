@@ -6,4 +6,5 @@ mod cells;
 mod kinds;
 mod records;
 
+pub use kinds::{cause_name, cause_section, ending_name, ending_section};
 pub use records::{add_cause, add_ending, add_goes_on, add_width};

@@ -4,11 +4,10 @@ use arrayvec::ArrayString;
 use capture_advice::{Widening, complete_by, widening_of};
 use capture_core::Capture;
 use capture_forms::CaptureForm;
-use json_trace::{after_byte, after_word, word};
 use line_wave::Edge;
 use std::alloc::{AllocError, Global};
 use std::fmt::Write;
-use text_core::{Sink, after, before, byte_at, first_line, put_all};
+use text_core::{Sink, after, before, byte_at, first_line, first_word, len_before, put_all};
 
 /// No part of a bit is so short, in microseconds: what is shorter is chatter.
 const CHATTER: u64 = 100;
@@ -95,14 +94,16 @@ pub fn signs_of(capture: &Capture, is_first: bool) -> Signs {
 
 // The name that a line of a dump gives a wire: `$var TYPE WIDTH ID NAME ..`.
 fn declared(line: &[u8]) -> Option<&[u8]> {
-    if word(line) != b"$var".as_slice() {
-        return None;
-    }
-    let rest = after_word(after_word(after_word(after_word(line))));
-    if rest.is_empty() {
-        None
+    let (verb, rest) = first_word(line);
+    let (_kind, rest) = first_word(rest?);
+    let (_width, rest) = first_word(rest?);
+    let (_id, rest) = first_word(rest?);
+    let rest = rest?;
+    let (name, _words) = first_word(rest);
+    if verb == b"$var".as_slice() && !rest.is_empty() {
+        Some(name)
     } else {
-        Some(word(rest))
+        None
     }
 }
 
@@ -120,7 +121,8 @@ fn dump_names(alloc: Global, input: &[u8]) -> Result<(Vec<u8>, u64), AllocError>
     let mut count = 0u64;
     let mut rest = input;
     'lines: while let Some((line, after)) = first_line(rest) {
-        if word(line) == b"$enddefinitions".as_slice() {
+        let (verb, _words) = first_word(line);
+        if verb == b"$enddefinitions".as_slice() {
             return Ok((names, count));
         }
         if let Some(name) = declared(line) {
@@ -158,7 +160,8 @@ fn column_names(alloc: Global, input: &[u8]) -> Result<(Vec<u8>, u64), AllocErro
         return Ok((names, 0));
     };
     let mut count = 0u64;
-    let rest = after_byte(b',', without_return(line));
+    let line = without_return(line);
+    let rest = after(line, len_before(line, b',') + 1);
     for field in rest.split(|byte| *byte == b',') {
         add_name(&mut names, without_space(field))?;
         count = count.saturating_add(1);

@@ -9,6 +9,7 @@ use Rattle.line_wave.specs.Line.{line_of}
 use Rattle.line_wave.specs.Sender.{slot_stretches, sender_stretches}
 use Rattle.line_frames.specs.declared.Ending.{Ending}
 use Rattle.line_frames.specs.declared.Ending.TheVariants.{Complete, Short, Silent, BadStart, Long, Open}
+use Rattle.message_text.specs.ReadingText.{is_complete}
 use Rattle.line_reading.specs.Windows.{standard}
 use Rattle.line_reading.specs.Reading.{reading_of}
 use Rattle.line_reading.specs.Readings.{IsLone, Listed}
@@ -20,9 +21,10 @@ use Rattle.audit_widths.specs.Misfits.{drive_within, last_of, long_by, long_low}
 use Rattle.audit_remarks.specs.declared.free.EarlierSender.TheVariants.{Nothing}
 use Rattle.audit_remarks.specs.declared.free.Previous.{Previous}
 use Rattle.audit_remarks.specs.Attempts.{tries_again}
+use Rattle.audit_remarks.specs.Endings.{is_measured}
 use Rattle.audit_remarks.specs.Free.{before_of, final_bit, final_by, free_before, free_due, is_bad_start, last_fall, previous_with, too_soon}
-use Rattle.audit_core.specs.Audit.{Tape, after, come_to, drive_by, falls_until, first_tape, is_folded, lows_of}
-use Rattle.audit_core.specs.Lines.{misfit_lines}
+use Rattle.audit_core.specs.Audit.{Tape, after, come_to, drive_by, drive_of, falls_until, first_tape, lows_of}
+use Rattle.audit_core.specs.Lines.{last_of as last_slot, misfit_lines}
 use Rattle.line_rounds.specs.declared.Seat.{Seat}
 use Rattle.line_rounds.specs.declared.Outcome.{Outcome}
 use Rattle.line_rounds.specs.Round.{IsRound}
@@ -98,9 +100,9 @@ first_edge from (o ∷ os) h l = subst (λ (w : List Stretch). Later from (edges
 
 -- ---- what an audit remarks
 
-unfolded : {X : Type 0} (b : Bool) (xs : List X) → xs ≡ [] → (if b then [] else xs) ≡ []
-unfolded true xs h = refl
-unfolded false xs h = h
+measured : {X : Type 0} (b : Bool) (xs : List X) → xs ≡ [] → (if b then xs else []) ≡ []
+measured true xs h = h
+measured false xs h = refl
 
 until_is : (ending : Ending) (at : ℕ) → ending ≢ Open → falls_until ending at ≡ at
 until_is Complete at h = refl
@@ -123,11 +125,11 @@ apart_over o [] h = tt
 apart_over o (p ∷ os) h = let l : o.reading.at < p.reading.begin = h.1 in omega arith
 
 -- of a round that comes next nothing is remarked
-round_remarks : (o : Outcome) (os : List Outcome) → AreTimed (o ∷ os) → (edges : List Edge) → edges ≡ edges_of o.wave ++ edges_of (run_wave os)
-    → misfit_lines o.reading.ending o.reading.bits.items 0 (lows_before (falls_until o.reading.ending o.reading.at) edges) ≡ []
-round_remarks o os h edges e =
-    ap (λ (es : List Edge). misfit_lines o.reading.ending o.reading.bits.items 0 (lows_before (falls_until o.reading.ending o.reading.at) es)) (e ∙ ap (λ (w : List Stretch). edges_of w ++ edges_of (run_wave os)) h.0.wave)
-    ∙ sender_remarks o.reading.ending (falls_until o.reading.ending o.reading.at) (edges_of (run_wave os)) o.reading.bits.items o.reading.begin h.0.some
+round_remarks : (d : Option ℕ) (x : Listed) (all : List LowOf) (o : Outcome) (os : List Outcome) → AreTimed (o ∷ os) → (edges : List Edge) → edges ≡ edges_of o.wave ++ edges_of (run_wave os)
+    → misfit_lines (last_slot d x all) o.reading.ending o.reading.bits.items 0 (lows_before (falls_until o.reading.ending o.reading.at) edges) ≡ []
+round_remarks d x all o os h edges e =
+    ap (λ (es : List Edge). misfit_lines (last_slot d x all) o.reading.ending o.reading.bits.items 0 (lows_before (falls_until o.reading.ending o.reading.at) es)) (e ∙ ap (λ (w : List Stretch). edges_of w ++ edges_of (run_wave os)) h.0.wave)
+    ∙ sender_remarks d x all o.reading.ending (falls_until o.reading.ending o.reading.at) (edges_of (run_wave os)) o.reading.bits.items o.reading.begin h.0.some
     (first_edge (falls_until o.reading.ending o.reading.at) os h.2 (next_by (falls_until o.reading.ending o.reading.at) (o.reading.at + 1) os (omega (arith, u)) (apart_over o os h.1)))
     (let l : o.reading.begin + 2100 + 2400 * length o.reading.bits.items < o.reading.at = h.0.ends in omega (arith, l, u))
     (first_edge (o.reading.begin + 9300 + 2400 * length o.reading.bits.items) os h.2 (apart_free o os h.1))
@@ -228,7 +230,8 @@ round_within o os h edges e =
 pub rounds_in_time : (os : List Outcome) → AreTimed os → (t : Tape) (old : List Edge) → t.place ≡ old ++ edges_of (run_wave os) → OldBefore old os → AreInTime t (map outcome_listed os)
 rounds_in_time [] h t old left past = tt
 rounds_in_time (o ∷ os) h t old left past = (
-  unfolded (is_folded t.series o.reading.ending) _ (round_remarks o os h (come_to (outcome_listed o) t).place here),
+  measured (is_measured t.previous t.series (outcome_listed o) (lows_of (outcome_listed o) (come_to (outcome_listed o) t).place)) _
+      (round_remarks (drive_of (outcome_listed o) (come_to (outcome_listed o) t).place) (outcome_listed o) (lows_of (outcome_listed o) (come_to (outcome_listed o) t).place) o os h (come_to (outcome_listed o) t).place here),
   undriven o.reading.ending (first_low (gone_to o.reading.at (come_to (outcome_listed o) t).place)) h.0.whole,
   round_within o os h (come_to (outcome_listed o) t).place here,
   rounds_in_time os h.2 (after (outcome_listed o) t) (edges_of o.wave) here (old_before o os h),
@@ -347,7 +350,7 @@ past_next o (next ∷ os) h p edges e past = by (is_bad_start o.reading.ending)
     ]
 
     by : (bad : Bool)
-        → IsPast (if bad then p else record { frame = before_of o.reading.ending o.reading.bits.items; final_bit = final_bit (outcome_listed o) (lows_of (outcome_listed o) edges) }) next.reading.begin
+        → IsPast (if bad then p else record { frame = before_of o.reading.ending o.reading.bits.items; final_bit = final_bit (outcome_listed o) (lows_of (outcome_listed o) edges); whole = is_complete o.reading.ending }) next.reading.begin
     by true = later
     by false = inr (omega (arith, final, apart))
 

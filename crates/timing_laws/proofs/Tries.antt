@@ -9,6 +9,7 @@ use Rattle.line_wave.specs.declared.Stretch.{Stretch}
 use Rattle.line_frames.specs.declared.Ending.{Ending}
 use Rattle.line_frames.specs.declared.Ending.TheVariants.{Complete, Short, Silent, BadStart, Long, Open}
 use Rattle.line_frames.specs.Bits.{frame_bits}
+use Rattle.message_text.specs.ReadingText.{is_complete}
 use Rattle.line_reading.specs.Reading.{first_in}
 use Rattle.line_reading.specs.Readings.{Listed}
 use Rattle.capture_core.specs.Edges.{edges_of}
@@ -420,7 +421,7 @@ runs_of_six s t (Goes begin o ∷ ms) framed none m tape old left past most kept
     past_bit : (bad : Bool) → is_bad_start o.reading.ending ≡ bad → (after x tape).previous.final_bit ≤ o.rest
     past_bit true e = absurd (false≢true (sym (no_bad_start o.reading.ending begun) ∙ e))
     past_bit false e =
-        subst (λ (b : Bool). (let q : Previous = if b then tape.previous else record { frame = before_of o.reading.ending o.reading.bits.items; final_bit = final_bit x lows } in q).final_bit ≤ o.rest) (sym e)
+        subst (λ (b : Bool). (let q : Previous = if b then tape.previous else record { frame = before_of o.reading.ending o.reading.bits.items; final_bit = final_bit x lows; whole = is_complete o.reading.ending } in q).final_bit ≤ o.rest) (sym e)
         (let f : final_bit x lows ≤ o.reading.begin + 2100 + 2400 * length o.reading.bits.items = final_by_round o (rounds_of ms) timed (come_to x tape).place here in omega (arith, f, low))
 
 -- nothing is kept when an audit begins

@@ -1,4 +1,5 @@
 -- The widths of a line of nominal times are in their windows.
+use Rattle.line_reading.specs.Readings.{Listed}
 use Rattle.line_reading.specs.Windows.{standard}
 use Rattle.std.proofs.Common.{◌≡◌, ℕ, zero, suc, ◌+◌, ◌-◌, ◌*◌, ◌==◌, ◌<◌, ◌≤◌, Bool, true, false, not, ◌&&◌, nat_lt, if◌then◌else◌, List, [], ◌∷◌, ◌++◌, length, length-append, slice_index_or, take, Option, Some, None, refl, arith, ap, ◌∙◌, sym, subst, append_assoc}
 use Rattle.std.proofs.Math.Seq.{get_or-append_seam}
@@ -11,8 +12,9 @@ use Rattle.audit_widths.specs.declared.low.Low.{Low as LowOf}
 use Rattle.audit_widths.specs.declared.misfit.SlotWidth.TheVariants.{Low, Total}
 use Rattle.audit_widths.specs.declared.misfit.Misfit.{Misfit}
 use Rattle.audit_widths.specs.Lows.{low_at, lows_before, lows_in}
-use Rattle.audit_widths.specs.Misfits.{fits, has_all, is_total, low_misfit, low_window, misfit_of, slot_bit, total_by, total_misfit, total_window, window}
-use Rattle.audit_core.specs.Lines.{misfit_lines}
+use Rattle.audit_widths.specs.Misfits.{drive_within, fits, has_all, is_total, low_misfit, low_window, misfit_of, slot_bit, total_by, total_misfit, total_window, window}
+use Rattle.audit_remarks.specs.Endings.{is_stray}
+use Rattle.audit_core.specs.Lines.{last_by, last_of as last_slot, misfit_lines, slot_by, slot_low, slot_total}
 
 -- ---- widths in their windows
 
@@ -29,10 +31,38 @@ fit_take zero ending bits slot lows h = tt
 fit_take (suc n) ending bits slot [] h = tt
 fit_take (suc n) ending bits slot (low ∷ lows) h = (h.0, fit_take n ending bits (slot + 1) lows h.1)
 
--- of which nothing is remarked
-no_misfits : (ending : Ending) (bits : List Bool) (slot : ℕ) (lows : List LowOf) → AllFit ending bits slot lows → misfit_lines ending bits slot lows ≡ []
-no_misfits ending bits slot [] h = refl
-no_misfits ending bits slot (low ∷ lows) h = rw (h.0.0, h.0.1) (no_misfits ending bits (slot + 1) lows h.1)
+-- of which nothing is remarked, whatever is measured of the last slot
+low_by_last : (d e : Option ℕ) (b c : Bool) (bits : List Bool) (slot : ℕ) (low : LowOf) → low_misfit bits slot low ≡ None
+    → slot_low (if b then (if c then last_by (Some 0) None else last_by d e) else last_by None None) bits slot low ≡ None
+low_by_last d e false c bits slot low h = h
+low_by_last d e true true bits slot low h = h
+low_by_last None None true false bits slot low h = h
+low_by_last (Some w) None true false bits slot low h = h
+low_by_last None (Some w) true false bits slot low h = refl
+low_by_last (Some v) (Some w) true false bits slot low h = refl
+
+no_low : (d : Option ℕ) (x : Listed) (all : List LowOf) (n : ℕ) (bits : List Bool) (slot : ℕ) (low : LowOf) → low_misfit bits slot low ≡ None
+    → slot_low (slot_by (last_slot d x all) n) bits slot low ≡ None
+no_low d x all n bits slot low h = low_by_last d (drive_within all) (n == 0) (is_stray x all) bits slot low h
+
+total_by_last : (d e : Option ℕ) (b c : Bool) (ending : Ending) (bits : List Bool) (slot : ℕ) (low : LowOf) → total_misfit ending bits slot low ≡ None
+    → slot_total (if b then (if c then last_by (Some 0) None else last_by d e) else last_by None None) ending bits slot low ≡ None
+total_by_last d e false c ending bits slot low h = h
+total_by_last d e true true ending bits slot low h = refl
+total_by_last None None true false ending bits slot low h = h
+total_by_last (Some w) None true false ending bits slot low h = refl
+total_by_last None (Some w) true false ending bits slot low h = refl
+total_by_last (Some v) (Some w) true false ending bits slot low h = refl
+
+no_total : (d : Option ℕ) (x : Listed) (all : List LowOf) (n : ℕ) (ending : Ending) (bits : List Bool) (slot : ℕ) (low : LowOf) → total_misfit ending bits slot low ≡ None
+    → slot_total (slot_by (last_slot d x all) n) ending bits slot low ≡ None
+no_total d x all n ending bits slot low h = total_by_last d (drive_within all) (n == 0) (is_stray x all) ending bits slot low h
+
+no_misfits : (d : Option ℕ) (x : Listed) (all : List LowOf) (ending : Ending) (bits : List Bool) (slot : ℕ) (lows : List LowOf) → AllFit ending bits slot lows
+    → misfit_lines (last_slot d x all) ending bits slot lows ≡ []
+no_misfits d x all ending bits slot [] h = refl
+no_misfits d x all ending bits slot (low ∷ lows) h =
+    rw (no_low d x all (length lows) bits slot low h.0.0, no_total d x all (length lows) ending bits slot low h.0.1) (no_misfits d x all ending bits (slot + 1) lows h.1)
 
 -- ---- one slot
 
@@ -145,9 +175,9 @@ sender_fits ending until rest (bit ∷ bits) begin some over room free =
     ) (slots_fit ending until rest [] (bit ∷ bits) 1 (begin + 4500) refl over (λ s. (omega (arith, room), sooner (begin + 4500 + 2400 * length (bit ∷ bits) + 4800) (begin + 9300 + 2400 * length (bit ∷ bits)) rest (omega arith) free)))
 
 -- so nothing is remarked of it
-pub sender_remarks : (ending : Ending) (until : ℕ) (rest : List Edge) (bits : List Bool) (begin : ℕ) → 0 < length bits → Later until rest
+pub sender_remarks : (d : Option ℕ) (x : Listed) (all : List LowOf) (ending : Ending) (until : ℕ) (rest : List Edge) (bits : List Bool) (begin : ℕ) → 0 < length bits → Later until rest
     → begin + 2100 + 2400 * length bits < until → Later (begin + 9300 + 2400 * length bits) rest
-    → misfit_lines ending bits 0 (lows_before until (edges_of (sender_stretches begin bits) ++ rest)) ≡ []
-sender_remarks ending until rest bits begin some over room free =
-    no_misfits ending bits 0 (lows_before until (edges_of (sender_stretches begin bits) ++ rest))
+    → misfit_lines (last_slot d x all) ending bits 0 (lows_before until (edges_of (sender_stretches begin bits) ++ rest)) ≡ []
+sender_remarks d x all ending until rest bits begin some over room free =
+    no_misfits d x all ending bits 0 (lows_before until (edges_of (sender_stretches begin bits) ++ rest))
     (fit_take 161 ending bits 0 (lows_in until (edges_of (sender_stretches begin bits) ++ rest)) (sender_fits ending until rest bits begin some over room free))

@@ -24,7 +24,7 @@ use Rattle.capture_laws.specs.Formats.{IsReadText}
 -- an audit that goes from reading to reading remarks no width, and no low drive, after a fall too early or within a low
 abbrev pub AreInTime : Tape → List Listed → Type 0
 AreInTime t [] = Unit {0}
-AreInTime t (x ∷ xs) = (reading_misfits (come_to x t).series x (lows_of x (come_to x t).place) ≡ []) × (drive_of x (come_to x t).place ≡ None) × (drive_within (lows_of x (come_to x t).place) ≡ None) × AreInTime (after x t) xs
+AreInTime t (x ∷ xs) = (reading_misfits (come_to x t) x (lows_of x (come_to x t).place) (drive_of x (come_to x t).place) ≡ []) × (drive_of x (come_to x t).place ≡ None) × (drive_within (lows_of x (come_to x t).place) ≡ None) × AreInTime (after x t) xs
 
 -- what it remarks of the free time before a frame asks for more than the shortest, three bit periods
 abbrev pub AsksForMore : Option TooSoon → Type 0

@@ -7,7 +7,7 @@ use Rattle.audit_expect.proofs.remarks.add_lines.Given as goal
 -- the tests of the lines before, and those of the lines that are left
 abbrev pub invariant-lines : goal.invariant-lines
 invariant-lines l = record {
-  same : with_wanted_lines l.remarks (report_as l.draft) l.number (lines_of l.rest) ≡ with_wanted_lines l.remarks (report_as l.fn.draft) 1 (lines_of l.text);
+  same : with_wanted_lines l.form l.remarks (report_as l.draft) l.number (lines_of l.rest) ≡ with_wanted_lines l.form l.remarks (report_as l.fn.draft) 1 (lines_of l.text);
   room : l.number + length l.rest ≤ length l.text + 1;
 }
 

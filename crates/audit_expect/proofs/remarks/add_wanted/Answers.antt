@@ -6,4 +6,4 @@ use Rattle.audit_expect.proofs.remarks.add_wanted.Goals as goal
 
 pub returns-then-not-is_any_wanted : goal.returns-then-not-is_any_wanted
 returns-then-not-is_any_wanted c =
-    none_asked c.is_any_wanted.result (audit_remarks c.args.capture.now) (report_as c.args.draft.now) (lines_of c.args.text.now) c.is_any_wanted.ensures c.if-not-is_any_wanted.true
+    none_asked c.is_any_wanted.result c.args.form (audit_remarks c.args.capture.now) (report_as c.args.draft.now) (lines_of c.args.text.now) c.is_any_wanted.ensures c.if-not-is_any_wanted.true

@@ -31,6 +31,15 @@ returns-in-Unfinished g c = subst (λ (n : AuditNote). Adds c.args.out.now c.add
 pub returns-in-Attempt : goal.returns-in-Attempt
 returns-in-Attempt g c = subst (λ (n : AuditNote). Adds c.args.out.now c.add_attempt.new.out (note_text c.args.form n)) (sym c.in-Attempt.is) c.add_attempt.ensures
 
+pub returns-in-GoesOn : goal.returns-in-GoesOn
+returns-in-GoesOn g c = subst (λ (n : AuditNote). Adds c.args.out.now c.add_goes_on.new.out (note_text c.args.form n)) (sym c.in-GoesOn.is) c.add_goes_on.ensures
+
+pub returns-in-Ending : goal.returns-in-Ending
+returns-in-Ending g c = subst (λ (n : AuditNote). Adds c.args.out.now c.add_ending.new.out (note_text c.args.form n)) (sym c.in-Ending.is) c.add_ending.ensures
+
+pub returns-in-Cause : goal.returns-in-Cause
+returns-in-Cause g c = subst (λ (n : AuditNote). Adds c.args.out.now c.add_cause.new.out (note_text c.args.form n)) (sym c.in-Cause.is) c.add_cause.ensures
+
 pub returns-in-Moved : goal.returns-in-Moved
 returns-in-Moved g c = subst (λ (n : AuditNote). Adds c.args.out.now c.add_moved.new.out (note_text c.args.form n)) (sym c.in-Moved.is) c.add_moved.ensures
 

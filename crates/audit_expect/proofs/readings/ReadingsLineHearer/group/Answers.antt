@@ -4,4 +4,4 @@ use Rattle.audit_expect.specs.Heard.{none_kept}
 use Rattle.audit_expect.proofs.readings.ReadingsLineHearer.group.Goals as goal
 
 pub returns : goal.returns
-returns c = none_kept (map kept_as c.args.self.now.rounds.items) c.args.self.now.full
+returns c = none_kept c.args.self.now.form (map kept_as c.args.self.now.rounds.items) c.args.self.now.full

@@ -1,0 +1,5 @@
+use Rattle.std.proofs.Common.{length}
+use Rattle.audit_expect.proofs.faults.+is_third_of_any.Given as goal
+
+abbrev pub decreases-is_third_of_any : goal.decreases-is_third_of_any
+decreases-is_third_of_any l = length l.forms.now
