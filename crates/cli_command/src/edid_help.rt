@@ -175,9 +175,11 @@ channels. Where they have no room the EDID is refused as `edid: no-room`.
 
 With --merge the input is a display's EDID and after it a receiver's own, or with --hex their dumps, and
 the EDID is the one that the receiver answers with. --rows says whose blocks of a kind are taken: keep, the
-display's; own, the receiver's; and, the bits that both have; least, these and the lesser clock:
+display's; own, the receiver's; and, the bits that both have; least, these and the lesser clock; link, the
+display's formats that the link of both carries, which holds too where no row is given and the receiver has
+no HDMI Forum's block:
   product own      keep, own               maker, product, serial number, date and name
-  video keep       keep, own               video codes, formats in 4:2:0
+  video keep       keep, own, link         video codes, formats in 4:2:0
   audio own        keep, own
   speakers own     keep, own, and
   hdmi least       keep, own, least        the address is the receiver's, but with keep

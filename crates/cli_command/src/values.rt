@@ -39,7 +39,7 @@ fn row_of(flag: Valued) -> (&'static str, &'static str) {
         Valued::Rows => {
             (
                 "--rows",
-                "KIND=ROW, a comma apart, 12 at most; product, video, audio, maker-video, maker-audio and other take keep or own, hdmi and forum least too, and speakers, capability, colorimetry and hdr keep, own or and",
+                "KIND=ROW, a comma apart, 12 at most; product, audio, maker-video, maker-audio and other take keep or own, video link too, hdmi and forum least too, and speakers, capability, colorimetry and hdr keep, own or and",
             )
         }
         Valued::Nth => (

@@ -5,6 +5,8 @@ use Rattle.std.specs.Option.{option_map}
 use Rattle.std.specs.Str.{bytes_eq}
 use Rattle.edid_merge.specs.declared.table.Bits.{Bits}
 use Rattle.edid_merge.specs.declared.table.Bits.TheVariants as bits
+use Rattle.edid_merge.specs.declared.table.Formats.{Formats}
+use Rattle.edid_merge.specs.declared.table.Formats.TheVariants as formats
 use Rattle.edid_merge.specs.declared.table.Numbers.{Numbers}
 use Rattle.edid_merge.specs.declared.table.Numbers.TheVariants as numbers
 use Rattle.edid_merge.specs.declared.table.Table.{Table}
@@ -14,6 +16,14 @@ use Rattle.cli_words.specs.Joined.{joined}
 
 abbrev pub whose_of : List ℕ → Option Whose
 whose_of word = if bytes_eq word (codes "keep") then Some whose.Keep else if bytes_eq word (codes "own") then Some whose.Own else None
+
+-- whose video blocks they are, and what of them stays
+abbrev pub videos_of : List ℕ → Option (Whose × Formats)
+videos_of word =
+    if bytes_eq word (codes "keep") then Some (whose.Keep, formats.All)
+    else if bytes_eq word (codes "own") then Some (whose.Own, formats.All)
+    else if bytes_eq word (codes "link") then Some (whose.Keep, formats.Carried)
+    else None
 
 abbrev pub bits_of : List ℕ → Option Bits
 bits_of word =
@@ -32,7 +42,7 @@ numbers_of word =
 abbrev pub with_row : Table → List ℕ → List ℕ → Option Table
 with_row table name word =
     if bytes_eq name (codes "product") then option_map (λ row. record table { product = row }) (whose_of word)
-    else if bytes_eq name (codes "video") then option_map (λ row. record table { video = row }) (whose_of word)
+    else if bytes_eq name (codes "video") then option_map (λ row. record table { video = row.0; formats = row.1 }) (videos_of word)
     else if bytes_eq name (codes "audio") then option_map (λ row. record table { audio = row }) (whose_of word)
     else if bytes_eq name (codes "speakers") then option_map (λ row. record table { speakers = row }) (bits_of word)
     else if bytes_eq name (codes "hdmi") then option_map (λ row. record table { hdmi = row }) (numbers_of word)

@@ -1,10 +1,10 @@
 //! The rows of the table by which the EDIDs of a display and of a receiver are made one.
 ghost use Rattle.std.specs.Prelude.{◌≡◌};
-ghost use Rattle.cli_words.specs.Rows.{bits_of, numbers_of, parted, rows_of, rows_within, whose_of, with_row, with_row_in};
+ghost use Rattle.cli_words.specs.Rows.{bits_of, numbers_of, parted, rows_of, rows_within, videos_of, whose_of, with_row, with_row_in};
 ghost use Rattle.std.specs.Option.{option_map};
 
 use crate::joined::joined;
-use edid_merge::{Bits, Numbers, Table, Whose};
+use edid_merge::{Bits, Formats, Numbers, Table, Whose};
 
 fn whose_of(word: &str) -> Option<Whose>
     ensures { result ≡ whose_of word.now }
@@ -12,6 +12,18 @@ fn whose_of(word: &str) -> Option<Whose>
     match word {
         "keep" => Some(Whose::Keep),
         "own" => Some(Whose::Own),
+        _ => None,
+    }
+}
+
+// Whose video blocks they are, and what of them stays.
+fn videos_of(word: &str) -> Option<(Whose, Formats)>
+    ensures { result ≡ videos_of word.now }
+{
+    match word {
+        "keep" => Some((Whose::Keep, Formats::All)),
+        "own" => Some((Whose::Own, Formats::All)),
+        "link" => Some((Whose::Keep, Formats::Carried)),
         _ => None,
     }
 }
@@ -48,8 +60,12 @@ fn with_row(table: Table, name: &str, word: &str) -> Option<Table>
             Some(Table { product, ..table })
         }
         "video" => {
-            let video = whose_of(word)?;
-            Some(Table { video, ..table })
+            let (video, formats) = videos_of(word)?;
+            Some(Table {
+                video,
+                formats,
+                ..table
+            })
         }
         "audio" => {
             let audio = whose_of(word)?;

@@ -14,3 +14,4 @@ pub mod Again
 pub mod Sorting
 pub mod Itself
 pub mod Owned
+mod OnLinks

@@ -3,3 +3,4 @@ pub mod Named
 pub mod Rows
 pub mod Products
 pub mod Itself
+pub mod Links

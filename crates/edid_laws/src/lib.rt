@@ -6,7 +6,8 @@ mod table_laws;
 mod word_laws;
 
 pub use mixing_laws::{
-    blocks_obey_their_rows, merges_to_itself, own_blocks_stand_once, own_labels_stand_once,
+    answers_stay_on_their_links, blocks_obey_their_rows, merges_to_itself, own_blocks_stand_once,
+    own_labels_stand_once,
 };
 pub use table_laws::{
     a_code_has_one_format, a_line_for_each_established_timing, standard_timings_have_lines,

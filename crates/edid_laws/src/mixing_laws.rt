@@ -1,5 +1,6 @@
 //! Laws of what a receiver answers with.
 ghost use Rattle.edid_laws.specs.Itself.{MergesToItself};
+ghost use Rattle.edid_laws.specs.Links.{StayOnTheirLinks};
 ghost use Rattle.edid_laws.specs.Products.{LabelsStandOnce};
 ghost use Rattle.edid_laws.specs.Rows.{ObeyTheirRows, OwnBlocksStandOnce};
 
@@ -25,4 +26,10 @@ pub fn own_labels_stand_once()
 /// extensions, which is not passed on.
 pub fn merges_to_itself()
     ensures { MergesToItself }
+{}
+
+/// In what a receiver answers with the rule `link-clock` finds no video code and no timing, where what the link does not carry is left
+/// out.
+pub fn answers_stay_on_their_links()
+    ensures { StayOnTheirLinks }
 {}

@@ -103,10 +103,6 @@ abbrev pub IsUnfit : List ℕ → Unfit → Type 0
 IsUnfit bytes (Edid cause) = IsRefused bytes cause
 IsUnfit bytes NotOne = (e : EdidValue) × (edid_bytes e ≡ bytes) × (has_one_cta e.extensions.items ≡ false)
 
--- these bytes are the EDID that a receiver answers with, of a display with these and of its own
-abbrev pub IsAnswer : Table → List ℕ → List ℕ → List ℕ → Type 0
-IsAnswer t display own bytes = (d : EdidValue) × (o : EdidValue) × (m : EdidValue) × IsOne display d × IsOne own o × IsMerged t d o m × (edid_bytes m ≡ bytes)
-
 -- why there is none: nothing is made of the display's bytes, or else of the receiver's, or else the blocks are too long
 abbrev pub IsNoAnswer : Table → List ℕ → List ℕ → MergeError → Type 0
 IsNoAnswer t display own (Display cause) = IsUnfit display cause

@@ -14,7 +14,7 @@ mod table;
 
 pub use mixing::Way;
 pub use notes::write_merge_notes;
-pub use repeater::{MergeError, TooLong, Unfit, merge, merge_bytes};
+pub use repeater::{MergeError, TooLong, Unfit, merge, one_edid};
 pub use speakers::{SpeakersError, with_speakers};
 pub use subject::{Subject, subject_of};
-pub use table::{Bits, Numbers, Table, Whose};
+pub use table::{Bits, Formats, Numbers, Table, Whose};

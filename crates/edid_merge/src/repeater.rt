@@ -1,7 +1,7 @@
 //! The EDID that a receiver answers with.
 ghost use Rattle.std.specs.Prelude.{◌≡◌, ◌<◌, ◌≤◌, IfOk, IfErr, OnErr, OnOk, flat_map, length};
 ghost use Rattle.edid_cta.specs.Ext.{ext_bytes};
-ghost use Rattle.edid_merge.specs.Merge.{HasRoom, IsAnswer, IsMerged, IsNoAnswer, IsOne, IsUnfit, blocks_for, cta_for, with_cta};
+ghost use Rattle.edid_merge.specs.Merge.{HasRoom, IsMerged, IsOne, IsUnfit, blocks_for, cta_for, with_cta};
 
 use crate::base::merged_base;
 use crate::blocks::merged_blocks;
@@ -10,7 +10,7 @@ use crate::extension::{
 };
 use crate::table::Table;
 use arrayvec::ArrayVec;
-use edid_core::{Edid, EdidError, edid_from_bytes, edid_to_bytes};
+use edid_core::{Edid, EdidError, edid_from_bytes};
 use edid_cta::Ext;
 use thiserror::Error;
 
@@ -102,32 +102,5 @@ pub fn one_edid(bytes: &[u8]) -> Result<Edid, Unfit>
                 Err(Unfit::Cta)
             }
         }
-    }
-}
-
-/// The bytes of the EDID that a receiver answers with by a table, of the bytes of a display's and of its own.
-///
-/// # Errors
-///
-/// The first reason why there is none.
-pub fn merge_bytes(
-    table: &Table,
-    display: &[u8],
-    own: &[u8],
-) -> Result<ArrayVec<u8, 512>, MergeError>
-    ensures merged { IfOk result (λ bytes. IsAnswer table.now display.now own.now bytes.items) }
-    ensures refused { IfErr result (λ error. IsNoAnswer table.now display.now own.now error) }
-{
-    let shown = match one_edid(display) {
-        Err(cause) => return Err(MergeError::Display(cause)),
-        Ok(edid) => edid,
-    };
-    let known = match one_edid(own) {
-        Err(cause) => return Err(MergeError::Receiver(cause)),
-        Ok(edid) => edid,
-    };
-    match merge(table, &shown, &known) {
-        Err(_) => Err(MergeError::Long),
-        Ok(merged) => Ok(edid_to_bytes(&merged)),
     }
 }

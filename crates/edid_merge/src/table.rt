@@ -31,6 +31,17 @@ pub enum Numbers {
     Least,
 }
 
+/// Whether formats that the link does not carry are passed on.
+#[derive(Clone, Copy, Debug, PartialEq, Eq)]
+pub enum Formats {
+    /// All of them.
+    All,
+    /// Those that it carries.
+    Carried,
+    /// Those that it carries, where the receiver has no block of the HDMI Forum; else all.
+    ByForum,
+}
+
 /// A row for each kind of block.
 #[derive(Clone, Copy, Debug, PartialEq, Eq)]
 pub struct Table {
@@ -38,6 +49,8 @@ pub struct Table {
     pub product: Whose,
     /// Video blocks, and those of formats in 4:2:0, one of which goes by the places of the codes in the others.
     pub video: Whose,
+    /// What of them stays, and of timings.
+    pub formats: Formats,
     pub audio: Whose,
     pub speakers: Bits,
     /// The HDMI block.
@@ -63,6 +76,7 @@ impl Table {
     pub const RECEIVER: Table = Table {
         product: Whose::Own,
         video: Whose::Keep,
+        formats: Formats::ByForum,
         audio: Whose::Own,
         speakers: Bits::Own,
         hdmi: Numbers::Least,

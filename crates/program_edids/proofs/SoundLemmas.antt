@@ -7,7 +7,7 @@ use Rattle.conversion_calls.specs.Passing.{IsPassedOn}
 use Rattle.conversion_calls.specs.declared.passing.Passing.{Passing}
 use Rattle.record_core.specs.declared.cell.Form.{Form}
 use Rattle.edid_dump.specs.Nth.{nth_in_dump}
-use Rattle.edid_merge.specs.Merge.{IsAnswer}
+use Rattle.conversion_fit.specs.Answers.{IsAnswer}
 use Rattle.edid_merge.specs.Speakers.{IsSpoken}
 use Rattle.edid_merge.specs.declared.table.Table.{Table}
 use Rattle.edid_as_source.specs.Count.{balance, with_count}

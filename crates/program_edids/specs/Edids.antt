@@ -31,7 +31,7 @@ use Rattle.edid_texts.specs.declared.parse.TextError.{TextError}
 use Rattle.edid_texts.specs.declared.parse.TextError.TheVariants as texts
 use Rattle.program_edids.specs.declared.edid_fault.EdidFault.{EdidFault}
 use Rattle.program_edids.specs.declared.edid_fault.EdidFault.TheVariants as faults
-use Rattle.edid_merge.specs.Merge.{IsAnswer}
+use Rattle.conversion_fit.specs.Answers.{IsAnswer}
 use Rattle.edid_merge.specs.Speakers.{IsSpoken}
 use Rattle.edid_as_source.specs.Count.{counted, first_count, with_count}
 use Rattle.edid_as_source.specs.Source.{as_source}

@@ -1,6 +1,6 @@
 //! The bytes that an input gives, of which an EDID is read.
 ghost use Rattle.std.specs.Prelude.{◌≡◌, IfErr, IfOk, false, true};
-ghost use Rattle.edid_merge.specs.Merge.{IsAnswer};
+ghost use Rattle.conversion_fit.specs.Answers.{IsAnswer};
 ghost use Rattle.edid_core.specs.Bytes.{edid_bytes};
 ghost use Rattle.edid_core.specs.declared.edid.Edid.{Edid as EdidValue};
 ghost use Rattle.edid_texts.specs.Lines.{edid_text};
@@ -8,11 +8,12 @@ ghost use Rattle.program_edids.specs.Edids.{IsFaultOf, IsRead, IsTextFault, disp
 
 use crate::edid_fault::EdidFault;
 use cli_words::Source;
+use conversion_fit::merge_bytes;
 use conversion_notes::plain_text;
 use edid_as_source::first_count;
 use edid_core::edid_to_bytes;
 use edid_dump::nth_dump_bytes;
-use edid_merge::{Table, merge_bytes};
+use edid_merge::Table;
 use edid_spelling::{canonical_text, in_words};
 use edid_texts::{TextError, parse_text};
 use std::alloc::{AllocError, Global};

@@ -1,5 +1,5 @@
 use Rattle.std.proofs.Common.{◌∙◌, ℕ, List, subst, sym}
-use Rattle.edid_merge.specs.Merge.{IsAnswer}
+use Rattle.conversion_fit.specs.Answers.{IsAnswer}
 use Rattle.program_edids.proofs.edid_given.merged.Goals as goal
 
 pub returns-in_ok-to_vec-in-Ok : goal.returns-in_ok-to_vec-in-Ok

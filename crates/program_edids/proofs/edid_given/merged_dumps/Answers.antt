@@ -1,5 +1,5 @@
 use Rattle.std.proofs.Common.{ℕ, List, IfOk, subst, true}
-use Rattle.edid_merge.specs.Merge.{IsAnswer}
+use Rattle.conversion_fit.specs.Answers.{IsAnswer}
 use Rattle.cli_words.specs.declared.choice.Source.TheVariants.{Pair}
 use Rattle.program_edids.specs.Edids.{IsRead}
 use Rattle.program_edids.proofs.SoundLemmas.{dumps_read, if_ok}

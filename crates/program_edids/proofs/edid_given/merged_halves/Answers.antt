@@ -1,5 +1,5 @@
 use Rattle.std.proofs.Common.{ℕ, List, IfOk, subst}
-use Rattle.edid_merge.specs.Merge.{IsAnswer}
+use Rattle.conversion_fit.specs.Answers.{IsAnswer}
 use Rattle.program_edids.specs.Edids.{display_half}
 use Rattle.program_edids.proofs.edid_given.merged_halves.Goals as goal
 

@@ -1,0 +1,5 @@
+use Rattle.std.proofs.Common.{length}
+use Rattle.conversion_fit.proofs.edid.+add_fitted.Given as goal
+
+abbrev pub decreases-add_fitted : goal.decreases-add_fitted
+decreases-add_fitted l = length l.some.now

@@ -1,0 +1,5 @@
+pub mod Blocks
+pub mod Timings
+pub mod Whole
+pub mod Answers
+pub mod Laws

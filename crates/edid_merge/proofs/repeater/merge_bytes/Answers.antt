@@ -1,6 +1,0 @@
-use Rattle.std.proofs.Common.{sym}
-use Rattle.edid_merge.proofs.repeater.merge_bytes.Goals as goal
-
-pub returns-in-Ok-merge-clause-merged : goal.returns-in-Ok-merge-clause-merged
-returns-in-Ok-merge-clause-merged c =
-    (c.in-Ok.edid, c.in-Ok-one_edid.edid, c.in-Ok-merge.merged, c.in-Ok.ensures.found, c.in-Ok-one_edid.ensures.found, c.in-Ok-merge.ensures.merged, sym c.edid_to_bytes.ensures)
