@@ -21,7 +21,7 @@ edges:0 12000 0|12300 1|20000 0|20300 1|40000 end => >>12000 12300 bad-start -|>
 edges:0 POLL|38700 1|39150 end => >>>>>>>>>>>>>>>>>>>>>>>12000 39150 complete 0>0 nack|  all readings|  from 0: 0 taken, 1 not taken, 0 broken|  start low 3700..3700 mean 3700 of 1|MEANS| .
 edges:0 12000 0|15700 1|NACKED|38700 1|50000 0|50300 1|60000 end => >>>>>>>>>>>>>>>>>>>>>>>12000 39150 complete 4>0 nack|  block 1 not acknowledged, attempt 1|>50000 50300 bad-start -|>  start low 300 not 3500..3900|  all readings|  from 4: 0 taken, 1 not taken, 0 broken|  start low 3700..3700 mean 3700 of 1|OF 3 7| !
 # How long a low drive was is known with its rise.
-edges:0 12000 0|15700 1|16500 0|17100 1|17500 0|21100 1|40000 end => >>>>>12000 17500 short -|>  slot 1 block 1 bit 1 total 1000 not 2050..2750|  low drive 3600|>  all readings|  start low 3700..3700 mean 3700 of 1|  start total 4500..4500 mean 4500 of 1|  one low 600..600 mean 600 of 1|  bit total 1000..1000 mean 1000 of 1| !
+edges:0 12000 0|15700 1|16500 0|17100 1|17500 0|21100 1|40000 end => >>>>>12000 17500 short -|>  low drive 3600|>  all readings|  start low 3700..3700 mean 3700 of 1|  start total 4500..4500 mean 4500 of 1|  one low 600..600 mean 600 of 1|  bit total 1000..1000 mean 1000 of 1| !
 # By wider windows a start bit that is low for 3,950 is one, and is remarked.
 edges:100 12000 0|15950 1|SLOTS|38700 1|90000 0|90300 1|99000 end => >>>>>>>>>>>>>>>>>>>>>>>12000 39150 complete 0>0 nack|  start low 3950 not 3500..3900|>90000 90300 bad-start -|>  start low 300 not 3500..3900|  all readings|  from 0: 0 taken, 1 not taken, 0 broken|  start low 3950..3950 mean 3950 of 1|MEANS| !
 # Without a pulse that is too short, and of a probe that turns the level.

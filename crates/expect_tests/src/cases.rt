@@ -3,6 +3,7 @@ use crate::names::{SCRIPT, TOPOLOGY as ROOM};
 use crate::rows::{CUTS, FAULTS, PATTERNS, PLAIN, REFUSALS, TOPOLOGY};
 use expect_run::{CheckError, Tally, check, verdicts};
 use expect_text::{cut_script, first_fault, fits, plain_script};
+use record_core::Form;
 use std::io::{self, ErrorKind, Write};
 use std::process::Abort;
 use text_core::Writes;
@@ -89,6 +90,7 @@ pub(crate) fn report_of(
     let mut out = Vec::new(rt.alloc());
     let done = check(
         rt.alloc(),
+        Form::Text,
         topology.as_bytes(),
         script.as_bytes(),
         &mut Writes::new(&mut out),
@@ -174,6 +176,7 @@ fn is_cut_off(rt: &(impl Abort + AllocGlobal), room: usize) -> bool {
     };
     let done = check(
         rt.alloc(),
+        Form::Text,
         b"device tv tv 4\n",
         b"expect from 0 to 9 short\nend 10\n",
         &mut Writes::new(&mut out),

@@ -1,6 +1,8 @@
-//! Tests of expectations: patterns, what is refused, plain scripts, limits, and reports worked out by hand.
+//! Tests of expectations, of reports, and of sweeps.
 #![tactic(auto)]
 
+#[cfg(test)]
+mod captures;
 #[cfg(test)]
 mod cases;
 #[cfg(test)]
@@ -11,3 +13,7 @@ mod names;
 mod rows;
 #[cfg(test)]
 mod said;
+#[cfg(test)]
+mod sweep_rows;
+#[cfg(test)]
+mod sweeps;

@@ -2,7 +2,7 @@
 //! which fault comes first.
 use crate::cases::case_holds;
 use device_features::KeyWord;
-use room_lines::{SCRIPT, ScriptVerb, TOPOLOGY, TopologyVerb};
+use room_lines::{SCRIPT, SESSION, ScriptVerb, SessionVerb, TOPOLOGY, TopologyVerb};
 use std::process::Abort;
 use text_core::{AtWord, Kind};
 use text_forms::{FormLine, LineCause, Slot, Value, fitting, read_line};
@@ -57,6 +57,14 @@ const FORMS: &[(char, &[(Slot, &str)])] = &[
             (Slot::Rest, "FRAME"),
         ],
     ),
+    (
+        'h',
+        &[
+            (Slot::Word, "hold"),
+            (Slot::LateTime, "T"),
+            (Slot::Text, "ADDRS"),
+        ],
+    ),
 ];
 
 /// What a line is read as: the letter of its form, or the cause and the word of its fault.
@@ -91,6 +99,9 @@ const READ: &[(&str, char)] = &[
     ("send p1 4>0", 'r'),
     ("send p1 4>0 give-osd-name", 'r'),
     ("send p1 ", 'r'),
+    ("hold 5 4", 'h'),
+    // The caller tells the fault of a late time.
+    ("hold x 4", 'h'),
 ];
 
 /// Lines at fault: the cause, and the word, counted from 0.
@@ -119,6 +130,7 @@ const REFUSED: &[(&str, LineCause, usize)] = &[
     ("device a amp 16", LineCause::Number, 3),
     ("device a amp", LineCause::Word, 3),
     ("send p1", LineCause::Word, 2),
+    ("hold 5", LineCause::Word, 2),
 ];
 
 #[test]
@@ -173,6 +185,10 @@ fn values_stand_at_their_places(rt: HostRuntime) {
     assert!(rt; line_of(&rt, "pin 5 1").level(2));
     assert!(rt; !line_of(&rt, "pin 5 0").level(2));
     assert!(rt; !line_of(&rt, "pin 5 1").level(1));
+    assert!(rt; line_of(&rt, "hold 1000000000000 4").late_time(1) == Some(1_000_000_000_000));
+    assert!(rt; line_of(&rt, "hold 1000000000001 4").late_time(1).is_none());
+    assert!(rt; line_of(&rt, "hold x 4").late_time(1).is_none());
+    assert!(rt; line_of(&rt, "hold 5 4").late_time(2).is_none());
     assert!(rt; line_of(&rt, "send p1 4>0").rest(1).is_none());
     let Some(words) = line_of(&rt, "send p1 4>0 give-osd-name").rest(2) else {
         panic!(rt; "the words of a frame");
@@ -223,6 +239,8 @@ const SAID: &[(&str, ScriptVerb)] = &[
     ("at 5 send p1 4>0 give-osd-name", ScriptVerb::Send),
     ("at 5 send p1 attempts 2 hex 4004", ScriptVerb::Send),
     ("at 5 hold l1 1+4+5+8", ScriptVerb::Hold),
+    // What the addresses are comes before what the time is, and the script tells both.
+    ("at x hold l1 17", ScriptVerb::Hold),
     ("at 5 drop l1", ScriptVerb::Drop),
     ("pulse 5 3700", ScriptVerb::Pulse),
     ("pull 5 10", ScriptVerb::Pull),
@@ -264,5 +282,50 @@ fn scripts_have_their_forms(rt: HostRuntime) {
             Err(fault) => fault.cause == *cause && fault.word == *word,
         };
         case_holds(&rt, is_so, line);
+    }
+}
+
+/// Lines of a session that are none of a script, and what each stands for.
+const ASKED: &[(&str, SessionVerb)] = &[
+    ("run to 5", SessionVerb::RunTo),
+    ("run to x", SessionVerb::RunTo),
+    ("wait", SessionVerb::Wait),
+    ("wait 5", SessionVerb::WaitUntil),
+    ("wait ", SessionVerb::WaitUntil),
+    ("show p1", SessionVerb::Show),
+    ("edge 5", SessionVerb::Edge),
+    ("edges on", SessionVerb::Edges),
+    ("edges off", SessionVerb::Edges),
+    ("seats on", SessionVerb::Seats),
+];
+
+/// Lines that a session reads as those of a script.
+const UNASKED: &[&str] = &[
+    "run",
+    "run 5",
+    "run to",
+    "run to 5 6",
+    "wait 5 6",
+    "show",
+    "edge",
+    "edges",
+    "edges yes",
+    "seats",
+    "seats 1",
+    "end 5",
+    "",
+];
+
+#[test]
+fn sessions_have_their_forms(rt: HostRuntime) {
+    for (line, verb) in ASKED {
+        let is_so = match read_line(SESSION, line.as_bytes()) {
+            Ok(found) => found.verb == *verb,
+            Err(_) => false,
+        };
+        case_holds(&rt, is_so, line);
+    }
+    for line in UNASKED {
+        case_holds(&rt, read_line(SESSION, line.as_bytes()).is_err(), line);
     }
 }

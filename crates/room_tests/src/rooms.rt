@@ -1,5 +1,5 @@
 //! The objects of a room, and those of its events.
-use crate::objects::holds;
+use crate::runs::holds;
 use device_core::SubmitError;
 use record_core::Form;
 use room_event::EventError;

@@ -1,11 +1,36 @@
-//! The objects of a run, which are written while it runs, beside those of its trace once it is there.
-use crate::objects::{Narrow, holds};
-use json_trace::write_objects;
+//! The objects of a run, which are written while it runs, beside the lines of its trace.
 use room_run::Totals;
 use room_run::emulate::{EmulateError, emulate};
 use room_run::objects::emulate_objects;
+use std::io::{self, ErrorKind, Write};
 use std::process::Abort;
 use text_core::Writes;
+
+pub(crate) fn holds(rt: &impl Abort, holds: bool, case: &str) {
+    assert!(rt; holds, "{case}");
+}
+
+/// A writer that takes one byte a call, as many as it has room for.
+#[derive(Drop)]
+struct Narrow {
+    bytes: Vec<u8>,
+    room: usize,
+}
+
+impl Write for Narrow {
+    fn write(&mut self, bytes: &[u8]) -> io::Result<usize> {
+        if self.bytes.len() >= self.room {
+            return Err(io::Error::from(ErrorKind::Other));
+        }
+        let taken = bytes.get(..1).unwrap_or(bytes);
+        self.bytes.extend_from_slice(taken)?;
+        Ok(taken.len())
+    }
+
+    fn flush(&mut self) -> io::Result<()> {
+        Ok(())
+    }
+}
 
 const TOPOLOGY: &str = "\
 device tv tv 4
@@ -71,11 +96,24 @@ fn is_front(want: &[u8], room: usize, out: &[u8], fault: Option<u128>) -> bool {
     }
 }
 
+/// Each object has the line of the trace that stands in its place.
+fn are_of(rt: &(impl Abort + AllocGlobal), trace: &str, objects: &str) {
+    holds(
+        rt,
+        trace.lines().count() == objects.lines().count(),
+        "an object a line",
+    );
+    for (line, object) in trace.lines().zip(objects.lines()) {
+        let front = format!(in rt.alloc(); "{{\"line\":\"{line}\",\"type\":\"").expect(rt, line);
+        holds(rt, object.starts_with(front.as_str()), line);
+    }
+}
+
 #[test]
 fn objects_of_a_run(rt: HostRuntime) {
-    let trace = trace(&rt);
-    let mut want = Vec::new(rt.alloc());
-    write_objects(&trace, &mut Writes::new(&mut want)).expect(&rt, "room");
+    let trace = String::from_utf8(trace(&rt)).expect(&rt, "a text");
+    let (want, fault) = written(&rt, SCRIPT, false, usize::MAX);
+    holds(&rt, fault.is_none(), "all of it");
     for room in [
         0,
         1,
@@ -87,6 +125,8 @@ fn objects_of_a_run(rt: HostRuntime) {
         let (out, fault) = written(&rt, SCRIPT, false, room);
         holds(&rt, is_front(&want, room, &out, fault), "objects of a run");
     }
+    let objects = String::from_utf8(want).expect(&rt, "a text");
+    are_of(&rt, trace.as_str(), objects.as_str());
 }
 
 /// The objects of the room, by hand.
@@ -113,10 +153,9 @@ const ENDS: &[(&str, &str)] = &[
     ),
 ];
 
-/// The objects of a trace with those of its room: as those of the trace alone, but for the ends of events.
-fn with_its_room(rt: &(impl Abort + AllocGlobal), trace: &[u8]) -> String {
-    let mut objects = Vec::new(rt.alloc());
-    write_objects(trace, &mut Writes::new(&mut objects)).expect(rt, "room");
+/// The objects of a run with those of its room: as those of the run alone, but for the ends of events.
+fn with_its_room(rt: &(impl Abort + AllocGlobal)) -> String {
+    let (objects, _) = written(rt, SCRIPT, false, usize::MAX);
     let mut text = String::from_utf8(objects).expect(rt, "a text");
     for (end, with_room) in ENDS {
         let end = end.replace(rt.alloc(), "'", "\"").expect(rt, "a text");
@@ -134,7 +173,7 @@ fn with_its_room(rt: &(impl Abort + AllocGlobal), trace: &[u8]) -> String {
 
 #[test]
 fn objects_of_a_run_and_its_room(rt: HostRuntime) {
-    let want = with_its_room(&rt, &trace(&rt));
+    let want = with_its_room(&rt);
     let want = want.as_bytes();
     for room in [
         0,

@@ -204,7 +204,7 @@ expect from 2 to 1 short => expectations line 1: order in word 4
 expect from 2 to 1 short|other => expectations line 1: order in word 4
 other|expect from 2 to 1 short => expectations line 1: word in word 0";
 
-/// A start bit, and a bit that is low for 820 microseconds (CEC 5.2.2: 400 to 800).
+/// A start bit, and a bit that is low for 820 microseconds (CEC 5.2.2: 400 to 800), after which the frame stops.
 pub(crate) const REMARKED: &str = "\
 21000 0
 24700 1
@@ -233,12 +233,15 @@ TAP version 13
 ok 1 - line 8: expect from 0 to 40000 silent 1
 not ok 2 - line 1: expect no-remark
 #   slot 1 block 1 bit 1 low 820 not 400..800
+#   stops after slot 1 by initiator -
 ok 3 - line 2: expect remark bit-low
 ok 4 - line 5: expect remark *-low slot * block 1
 not ok 5 - line 6: expect remark bit-low slot 2
 #   slot 1 block 1 bit 1 low 820 not 400..800
+#   stops after slot 1 by initiator -
 not ok 6 - line 7: expect remark free
 #   slot 1 block 1 bit 1 low 820 not 400..800
+#   stops after slot 1 by initiator -
 ok 7 - line 9: expect no-remark free
 not ok 8 - line 10: expect no-remark *-low slot *
 #   slot 1 block 1 bit 1 low 820 not 400..800
@@ -284,3 +287,28 @@ ok 8 - line 10: expect at most 2 within 400000 of boot *>0
 ok 9 - line 11: expect exactly 3 from 0 to 310000 *
 1..9
 ";
+
+/// The objects of the lines of `REPORT`.
+pub(crate) const OBJECTS: &str = "\
+{\"line\":\"TAP version 13\",\"type\":\"version\",\"version\":13}
+{\"line\":\"ok 1 - line 2: label on expect within 160000 of boot 4>0 image-view-on ack\",\"type\":\"test\",\"test\":1,\"script_line\":2,\"holds\":true,\"expectation\":\"label on expect within 160000 of boot 4>0 image-view-on ack\",\"refused\":null}
+{\"line\":\"ok 2 - line 3: expect once from 0 to 39150 0>0 nack\",\"type\":\"test\",\"test\":2,\"script_line\":3,\"holds\":true,\"expectation\":\"expect once from 0 to 39150 0>0 nack\",\"refused\":null}
+{\"line\":\"ok 3 - line 4: expect none from 0 to 39149 0>0\",\"type\":\"test\",\"test\":3,\"script_line\":4,\"holds\":true,\"expectation\":\"expect none from 0 to 39149 0>0\",\"refused\":null}
+{\"line\":\"not ok 4 - line 5: expect within 5 of on short\",\"type\":\"test\",\"test\":4,\"script_line\":5,\"holds\":false,\"expectation\":\"expect within 5 of on short\",\"refused\":null}
+{\"line\":\"# seen 0 from 151150 to 151155\",\"type\":\"window\",\"seen\":0,\"from\":151150,\"to\":151155}
+{\"line\":\"not ok 5 - line 7: expect within 100000 of late 4>0\",\"type\":\"test\",\"test\":5,\"script_line\":7,\"holds\":false,\"expectation\":\"expect within 100000 of late 4>0\",\"refused\":null}
+{\"line\":\"# seen 0 from 100001 to 200001\",\"type\":\"window\",\"seen\":0,\"from\":100001,\"to\":200001}
+{\"line\":\"ok 6 - line 8: expect once from 300000 to 310000 open\",\"type\":\"test\",\"test\":6,\"script_line\":8,\"holds\":true,\"expectation\":\"expect once from 300000 to 310000 open\",\"refused\":null}
+{\"line\":\"not ok 7 - line 9: expect none within 400000 of boot 4>0 image-view-on\",\"type\":\"test\",\"test\":7,\"script_line\":9,\"holds\":false,\"expectation\":\"expect none within 400000 of boot 4>0 image-view-on\",\"refused\":null}
+{\"line\":\"# seen 1 from 0 to 400000\",\"type\":\"window\",\"seen\":1,\"from\":0,\"to\":400000}
+{\"line\":\"# 100000 151150 complete 4>0 image-view-on ack\",\"type\":\"reading\",\"begin\":100000,\"close\":151150,\"ending\":\"complete\",\"frame\":\"4>0 image-view-on\",\"initiator\":\"4\",\"destination\":\"0\",\"bytes\":\"4004\",\"verdict\":\"ack\"}
+{\"line\":\"ok 8 - line 10: expect at most 2 within 400000 of boot *>0\",\"type\":\"test\",\"test\":8,\"script_line\":10,\"holds\":true,\"expectation\":\"expect at most 2 within 400000 of boot *>0\",\"refused\":null}
+{\"line\":\"ok 9 - line 11: expect exactly 3 from 0 to 310000 *\",\"type\":\"test\",\"test\":9,\"script_line\":11,\"holds\":true,\"expectation\":\"expect exactly 3 from 0 to 310000 *\",\"refused\":null}
+{\"line\":\"1..9\",\"type\":\"plan\",\"tests\":9}
+";
+
+/// Scripts and the objects of their stretches, as rows of `SWEEPS`.
+pub(crate) const OBJECTS_OF_SWEEPS: &str = "\
+expect from 0 to 39140..39160 0>0|end 50000 => not: {\"line\":\"39140..39149 not-ok\",\"type\":\"stretch\",\"from\":39140,\"to\":39149,\"holds\":[false]}|{\"line\":\"39150..39160 ok\",\"type\":\"stretch\",\"from\":39150,\"to\":39160,\"holds\":[true]}|
+at 5..7 press tv eject|expect from 0 to 50000 0>0|end 60000 => not: {\"line\":\"5..7 ok not-ok\",\"type\":\"stretch\",\"from\":5,\"to\":7,\"holds\":[true,false]}|
+at 5..7 press tv mute|end 10 => all: {\"line\":\"5..7\",\"type\":\"stretch\",\"from\":5,\"to\":7,\"holds\":[]}|";

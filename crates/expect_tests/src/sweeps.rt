@@ -1,6 +1,7 @@
 //! Sweeps of scripts.
-use crate::rows::{ALONE, DECKS, RACE, RACES, SWEEPS};
+use crate::sweep_rows::{ALONE, DECKS, OBJECTS_OF_SWEEPS, RACE, RACES, SWEEPS};
 use expect_sweep::{ProgressHearer, SilentProgress, SweepError, SweepProgress, sweep};
+use record_core::Form;
 use std::io::{self, ErrorKind, Write};
 use std::process::Abort;
 use text_core::Writes;
@@ -27,11 +28,17 @@ fn in_a_row(rt: &(impl Abort + AllocGlobal), text: Vec<u8>) -> String {
 
 /// The stretches of a script, and whether all its verdicts are ok, or why there are none.
 fn swept(rt: &(impl Abort + AllocGlobal), topology: &str, script: &str) -> String {
+    swept_in(rt, Form::Text, topology, script)
+}
+
+/// The same in a form.
+fn swept_in(rt: &(impl Abort + AllocGlobal), form: Form, topology: &str, script: &str) -> String {
     let topology = spelled(rt, topology);
     let script = spelled(rt, script);
     let mut out = Vec::new(rt.alloc());
     let done = sweep(
         rt.alloc(),
+        form,
         topology.as_bytes(),
         script.as_bytes(),
         &mut Writes::new(&mut out),
@@ -46,6 +53,18 @@ fn swept(rt: &(impl Abort + AllocGlobal), topology: &str, script: &str) -> Strin
             format!(in rt.alloc(); "script {fault} in word {word}{row}").expect(rt, "a refusal")
         }
         Err(error) => format!(in rt.alloc(); "{error}{row}").expect(rt, "a refusal"),
+    }
+}
+
+#[test]
+fn stretches_are_objects(rt: HostRuntime) {
+    for line in OBJECTS_OF_SWEEPS.lines() {
+        let (script, want) = line.split_once(" => ").expect(&rt, line);
+        holds(
+            &rt,
+            swept_in(&rt, Form::Json, ALONE, script).as_str() == want,
+            line,
+        );
     }
 }
 
@@ -99,6 +118,7 @@ fn is_cut_off(rt: &(impl Abort + AllocGlobal), room: usize) -> bool {
     };
     let done = sweep(
         rt.alloc(),
+        Form::Text,
         b"device tv tv 4\n",
         b"expect from 0 to 39149..39151 0>0\nend 50000\n",
         &mut Writes::new(&mut out),
@@ -146,6 +166,7 @@ fn heard_of(rt: &(impl Abort + AllocGlobal), range: &str) -> Heard {
     };
     let _ = sweep(
         rt.alloc(),
+        Form::Text,
         b"device tv tv 4\n",
         script.as_bytes(),
         &mut Writes::new(&mut out),

@@ -1,4 +1,5 @@
 //! The line and the object of each kind of note.
+use audit_judged::{Cause, EndingRemark, Party};
 use audit_notes::{AuditNote, LineHearer, LineWriter, SpreadKind, Strict, WidthSummary};
 use audit_remarks::{
     BadStartSeries, Failure, FrameCount, FrameHead, Mention, Missing, Receivers, Request, TooSoon,
@@ -122,6 +123,41 @@ const NOTES: &[(AuditNote, &str, &str)] = &[
         AuditNote::Attempt(failure!(2, 7, true)),
         "  block 2 refused, attempt 7 of at most 6",
         r#""type":"remark","remark":"too-many-attempts","section":"7.1","block":2,"verdict":"refused","attempt":7,"most":6"#,
+    ),
+    (
+        AuditNote::GoesOn(1, Party::Initiator(Some(4))),
+        "  goes on after block 1, which was not taken, by initiator 4",
+        r#""type":"remark","remark":"goes-on","section":"7.1","block":1,"who":"initiator","initiator":"4","follower":null"#,
+    ),
+    (
+        AuditNote::Ending(EndingRemark::Stops(13), Party::Initiator(Some(4))),
+        "  stops after slot 13 by initiator 4",
+        r#""type":"remark","remark":"stops","section":"6.1","slot":13,"who":"initiator","initiator":"4","follower":null"#,
+    ),
+    (
+        AuditNote::Ending(EndingRemark::Stops(2), Party::Initiator(None)),
+        "  stops after slot 2 by initiator -",
+        r#""type":"remark","remark":"stops","section":"6.1","slot":2,"who":"initiator","initiator":null,"follower":null"#,
+    ),
+    (
+        AuditNote::Ending(EndingRemark::LoneStart(3_700), Party::Unknown),
+        "  low for 3700 and nothing after it",
+        r#""type":"remark","remark":"lone-start","section":"5.2.1","width":3700,"who":"unknown","initiator":null,"follower":null"#,
+    ),
+    (
+        AuditNote::Cause(Cause::ArbitrationLost),
+        "  arbitration lost",
+        r#""type":"note","note":"arbitration-lost","section":"7.2""#,
+    ),
+    (
+        AuditNote::Cause(Cause::CutByTheEnd),
+        "  cut by the end",
+        r#""type":"note","note":"cut-by-the-end","section":null"#,
+    ),
+    (
+        AuditNote::Cause(Cause::MidFrame),
+        "  begins in mid frame",
+        r#""type":"note","note":"mid-frame","section":null"#,
     ),
     (
         AuditNote::Moved(1, ONE),

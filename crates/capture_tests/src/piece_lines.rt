@@ -1,5 +1,5 @@
 //! What is said of the pieces of captured lines.
-use crate::spelling::line_of;
+use crate::piece_spelling::line_of;
 use piece_audit::add_pieces;
 use record_core::Form;
 use std::process::Abort;

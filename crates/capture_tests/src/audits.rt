@@ -51,6 +51,7 @@ const WHOLE: &str = "\
   zero low 1500..1500 mean 1500 of 8
   bit total 2400..2400 mean 2400 of 9
 200000 224051 silent 01000000
+  stops after slot 8 by initiator 4
   start low 3700..3700 mean 3700 of 1
   start total 4500..4500 mean 4500 of 1
   one low 600..600 mean 600 of 1

@@ -1,9 +1,12 @@
 //! Expectations of captures.
-use crate::rows::{END, EXPECTED, FAULTS, FRAMES, REMARKED, REMARKS_REPORT, REPORT, WANTED};
+use crate::sweep_rows::{
+    END, EXPECTED, FAULTS, FRAMES, OBJECTS, REMARKED, REMARKS_REPORT, REPORT, WANTED,
+};
 use audit_expect::{CaptureCheckError, check_capture};
 use capture_core::Capture;
 use capture_monitor::read_edges;
 use expect_run::Tally;
+use record_core::Form;
 use std::process::Abort;
 use text_core::Writes;
 
@@ -58,9 +61,20 @@ fn report_of(
     expectations: &str,
     capture: &Capture,
 ) -> (String, String) {
+    report_in(rt, Form::Text, expectations, capture)
+}
+
+/// The same in a form.
+fn report_in(
+    rt: &(impl Abort + AllocGlobal),
+    form: Form,
+    expectations: &str,
+    capture: &Capture,
+) -> (String, String) {
     let mut out = Vec::new(rt.alloc());
     let done = check_capture(
         rt.alloc(),
+        form,
         expectations.as_bytes(),
         capture,
         &mut Writes::new(&mut out),
@@ -76,6 +90,13 @@ fn readings_are_judged(rt: HostRuntime) {
     let (text, counts) = report_of(&rt, EXPECTED, &captured(&rt, FRAMES));
     holds(&rt, counts.as_str() == "3 of 9", "counts");
     holds(&rt, text.as_str() == REPORT, "report");
+}
+
+#[test]
+fn reports_of_captures_are_objects(rt: HostRuntime) {
+    let (text, counts) = report_in(&rt, Form::Json, EXPECTED, &captured(&rt, FRAMES));
+    holds(&rt, counts.as_str() == "3 of 9", "counts");
+    holds(&rt, text.as_str() == OBJECTS, "objects");
 }
 
 #[test]
