@@ -131,18 +131,17 @@ const span = (least, most) => (least === most ? String(least) : `${least}..${mos
 /* Whether the fall after a slot came too early, and ended the round. */
 const isEnd = (round, slot) => round.ending === 'short' && slot.at + slot.total === round.close;
 
-/** The kinds of widths: what the program calls each, the page, and the remark on one that is out of its window of CEC 5.2.
-    @type {[string, string, string, number[]][]} */
+/** The kinds of widths: what the program calls each, the page, and its window of CEC 5.2.
+    @type {[string, string, number[]][]} */
 const KINDS = [
-  ['start low', 'start low', 'start-low', WINDOWS.startLow], ['start total', 'start total', 'start-total', WINDOWS.startTotal],
-  ['zero low', '0 low', 'bit-low', WINDOWS.zero], ['one low', '1 low', 'bit-low', WINDOWS.one],
-  ['bit total', 'bit total', 'bit-total', WINDOWS.total],
+  ['start low', 'start low', WINDOWS.startLow], ['start total', 'start total', WINDOWS.startTotal],
+  ['zero low', '0 low', WINDOWS.zero], ['one low', '1 low', WINDOWS.one], ['bit total', 'bit total', WINDOWS.total],
 ];
-/* The widths of a round as `mon --timing` has them. What is out of its window is remarked. */
-function measured({ widths: seen, remarks }) {
-  return KINDS.flatMap(([kind, name, remark, window]) => {
-    const isRemarked = remarks.some(one => one.kind === remark && one.least === window[0]);
-    const line = ({ least, greatest }) => [name, span(least, greatest), window.join('..'), isRemarked ? bad('out') : 'in'];
+/* The widths of a round as `mon --timing` has them. */
+function measured({ widths: seen }) {
+  return KINDS.flatMap(([kind, name, [from, to]]) => {
+    const verdict = ({ least, greatest }) => (least >= from && greatest <= to ? 'in' : bad('out'));
+    const line = one => [name, span(one.least, one.greatest), `${from}..${to}`, verdict(one)];
     return seen.filter(one => one.kind === kind).map(line);
   });
 }
