@@ -93,6 +93,7 @@ def cases():
         if name.endswith(".edid.txt") and name[: -len(".txt")] not in names:
             yield None, [name], name
     yield "edid --merge", ["lg-oled55b6v.edid", "denon-avr-x2300w.edid"], "denon-avr-x2300w.merged"
+    yield "edid --merge", ["lg-oled55b6v.edid", "living-room.edid"], "living-room.merged"
 
 
 def dump(data):

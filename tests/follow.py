@@ -144,7 +144,7 @@ def remarks_at_once():
     bus.send(edge_line(85600, 0))
     right = right and bus.line() == '80000 85600 short 1\n' and bus.is_quiet()
     bus.send(edge_line(89200, 1))
-    right = right and bus.line() == '  slot 1 block 1 bit 1 total 1100 not 2050..2750\n' and bus.line() == '  low drive 3600\n' and bus.is_quiet()
+    right = right and bus.line() == '  low drive 3600\n' and bus.is_quiet()
     bus.send('100000 end\n')
     right = right and bus.is_quiet()
     bus.close()
@@ -153,8 +153,8 @@ def remarks_at_once():
 
 
 def objects_at_once():
-    """With --json each object comes when its line would, and with --strict the status comes at the end: the total of a bit is 1,100,
-    where 2,050 to 2,750 is right (CEC 5.2.2)."""
+    """With --json each object comes when its line would, and with --strict the status comes at the end. The line falls 1,100
+    after the first bit of the second frame did: this bit is not measured, since a low drive breaks it (CEC 7.4)."""
     bus = Bus('edges', ('--audit', '--json', '--strict'))
     for at, level in edges_of([(0x40, 1, 1)], 20000):
         bus.send(edge_line(at, level))
@@ -168,7 +168,6 @@ def objects_at_once():
     bus.send(edge_line(85600, 0))
     right = right and has_fields(bus.line(), line='80000 85600 short 1', type='reading', ending='short', bits='1') and bus.is_quiet()
     bus.send(edge_line(89200, 1))
-    right = right and has_fields(bus.line(), line='  slot 1 block 1 bit 1 total 1100 not 2050..2750', type='remark', remark='bit-total', section='5.2.2', slot=1, block=1, bit=1, width=1100, least=2050, most=2750)
     right = right and has_fields(bus.line(), line='  low drive 3600', type='remark', remark='low-drive', width=3600) and bus.is_quiet()
     bus.send('100000 end\n')
     right = right and bus.is_quiet()

@@ -42,6 +42,7 @@ class Audit:
         self.bad = []               # begins of bad starts in a row
         self.final = None           # where the final bit of the frame before began, and who sent it and whether it was taken
         self.sender = None
+        self.whole = False          # whether it was read whole
         self.last = {}              # of each initiator: begin, bits, taken, attempt
         self.busy = 0               # since when no frame has begun five periods after the one before
         self.waiting = []
@@ -62,18 +63,31 @@ class Audit:
         return found
 
     def misfits(self, ending, bits, lows, text, widths):
+        """the widths out of their windows, each with its slot and its kind, and all widths"""
         for slot, (fall, rise, after) in enumerate(lows):
             bit = None if slot == 0 else bits[slot - 1] if slot <= len(bits) else 1
             where = 'start' if slot == 0 else 'slot %d block %d bit %d' % (slot, (slot - 1) // 10 + 1, (slot - 1) % 10 + 1)
             starts = slot > 0 or rise is not None and rise - fall >= 2600
             if rise is not None:
                 least, most = WINDOWS['start' if slot == 0 else bit, 'low']
-                if not least <= rise - fall <= most: text.append('%s low %d not %d..%d' % (where, rise - fall, least, most))
+                if not least <= rise - fall <= most: text.append((slot, 'low', '%s low %d not %d..%d' % (where, rise - fall, least, most)))
                 if starts: widths.append(('start low' if slot == 0 else 'one low' if bit else 'zero low', rise - fall))
             if after is not None and after - fall < 7200 and not (ending in ('complete', 'long') and slot == len(bits)):
                 least, most = (4300, 4700) if slot == 0 else (2050, 2750)
-                if not least <= after - fall <= most: text.append('%s total %d not %d..%d' % (where, after - fall, least, most))
+                if not least <= after - fall <= most: text.append((slot, 'total', '%s total %d not %d..%d' % (where, after - fall, least, most)))
                 if starts: widths.append(('start total' if slot == 0 else 'bit total', after - fall))
+
+    def how_it_ends(self, ending, bits, lows):
+        """what is said of an ending that nothing else says"""
+        if ending == 'complete': return
+        if ending == 'open': self.say('cut by the end')
+        elif not bits: self.say('low for %d and nothing after it' % (lows[0][1] - lows[0][0]))
+        elif len(bits) <= 4 and not bits[-1]: self.say('arbitration lost')
+        else: self.say('stops after slot %d by initiator %s' % (len(bits), '%x' % nibble(bits, 0) if len(bits) >= 4 else '-'))
+
+    def is_bit(self, low):
+        """low for as long as a bit"""
+        return low[1] is not None and low[1] - low[0] < 2600
 
     def drive(self, ending, at):
         if ending != 'short': return None
@@ -113,15 +127,20 @@ class Audit:
             if free < due: self.say('free %d of %d' % (free, due))
         text, widths = [], []
         self.misfits(ending, bits, lows, text, widths)
-        if not (is_bad and self.bad):
-            for line in text: self.say(line)
+        stray = is_bad and self.is_bit(lows[0])
+        behind = stray and not self.whole and begin - (self.final or 0) < 7200
+        measured = not (is_bad and self.bad or behind)
         drive = self.drive(ending, at)
-        if drive is not None: self.say('low drive %d%s' % (drive, '' if 3360 <= drive <= 3840 else ' not 3360..3840'))
         within = lows[-1][1] - lows[-1][0] if len(lows) > 1 and lows[-1][1] is not None else 0
         within = within if 3360 <= within <= 5540 else 0
+        last = len(lows) - 1
+        for slot, kind, line in text:
+            if measured and not (slot == last and (within or (stray or drive is not None) and kind == 'total')): self.say(line)
+        if drive is not None: self.say('low drive %d%s' % (drive, '' if 3360 <= drive <= 3840 else ' not 3360..3840'))
         if within: self.say('low drive for %d' % within)
-        if ending in ('silent', 'long') and bits and len(bits) % 10 == 0 and failed is None and not bits[-2] and not within:
-            self.say('ends after block %d without EOM' % (len(bits) // 10))
+        by_width = any(slot == last and (kind == 'total' or is_bad or not self.is_bit(lows[-1])) for slot, kind, _ in text)
+        unfinished = ending in ('silent', 'long') and bits and len(bits) % 10 == 0 and failed is None and not bits[-2]
+        if unfinished and not within and not by_width: self.say('ends after block %d without EOM' % (len(bits) // 10))
         # attempts
         busy = begin if free >= 12000 else self.busy
         attempt = 1
@@ -133,6 +152,12 @@ class Audit:
         if failed is not None and not own_poll:
             verb = 'refused' if destination == 15 else 'not acknowledged'
             self.say('block %d %s, attempt %d%s' % (failed, verb, attempt, ' of at most 6' if attempt > 6 else ''))
+        if failed is not None and failed < (len(bits) + 9) // 10:
+            self.say('goes on after block %d, which was not taken, by initiator %x' % (failed, initiator))
+        untaken = failed is not None and not own_poll and len(bits) == 10 * failed
+        if not measured:
+            if not self.bad and self.sender is None: self.say('begins in mid frame')
+        elif not (drive is not None or within or by_width or unfinished or untaken): self.how_it_ends(ending, bits, lows)
         self.message(at, frame)
         if self.timing:
             own = Widths()
@@ -153,6 +178,7 @@ class Audit:
         if has_header and not own_poll: self.last[initiator] = (begin, list(bits), taken, attempt)
         self.sender = (initiator, taken) if known else '?'
         self.final = at if ending == 'short' else lows[-1][0]
+        self.whole = ending == 'complete'
 
     def answers(self, begin, frame):
         left = []

@@ -5,7 +5,7 @@ from edid import check_edid, is_hdmi, mend, read_ext
 ROWS = {'product': 'own', 'video': 'keep', 'audio': 'own', 'speakers': 'own', 'hdmi': 'least', 'forum': 'least', 'capability': 'keep',
         'colorimetry': 'and', 'hdr': 'and', 'maker-video': 'keep', 'maker-audio': 'own', 'other': 'keep'}
 WORDS = {'speakers': 'keep own and', 'capability': 'keep own and', 'colorimetry': 'keep own and', 'hdr': 'keep own and',
-         'hdmi': 'keep own least', 'forum': 'keep own least'}
+         'hdmi': 'keep own least', 'forum': 'keep own least', 'video': 'keep own link'}
 EXTENDED = {0: 'capability', 1: 'maker-video', 7: 'maker-video', 5: 'colorimetry', 6: 'hdr', 14: 'video', 15: 'video', 0x78: 'override',
             **{tag: 'maker-audio' for tag in (17, 18, 19, 20)}}
 
@@ -51,7 +51,7 @@ def merged_blocks(rows, display, own):
     out = b''
     for kind in list(ROWS)[1:]:
         d, o = ([(tag, data) for _, tag, data in x['blocks'] if kind_of(tag, data) == kind] for x in (display, own))
-        if rows[kind] == 'keep': out += b''.join(spell(*it) for it in d)
+        if rows[kind] in ('keep', 'link'): out += b''.join(spell(*it) for it in d)
         elif rows[kind] == 'own': out += b''.join(spell(*it) for it in o)
         elif d and o: out += spell(d[0][0], one_of_two(kind, d[0][1], o[0][1]))
     return out
@@ -99,6 +99,8 @@ def merge(display, own, rows):
         if fault: return None, '%s: %s' % (name, ' '.join(str(x) for x in fault)), []
         if one_cta(e) is None: return None, name + ': one-cta', []
     place, there = one_cta(display), one_cta(own)
+    if rows['video'] is None:
+        rows = dict(rows, video='keep' if any(is_forum(tag, data) for _, tag, data in read_ext(own[there:there + 128])['blocks']) else 'link')
     d, o = read_ext(display[place:place + 128]), read_ext(own[there:there + 128])
     blocks = merged_blocks(rows, d, o)
     if len(blocks) > 123: return None, 'long', []
@@ -113,12 +115,71 @@ def merge(display, own, rows):
         there, unplaced = descriptors(display, own)
         base = mend(base[:8] + own[8:18] + base[18:54] + there + base[126:128])
         notes = ['passed over ' + edid.descriptor_text(d) for d in unplaced]
-    return base + display[128:place] + ext + display[place + 128:], None, notes
+    answer = base + display[128:place] + ext + display[place + 128:]
+    return fitted(answer) if rows['video'] == 'link' else answer, None, notes
+
+
+def is_forum(tag, data):
+    return tag == 3 and bytes(data[:3]) == b'\xd8\x5d\xc4' or tag == 7 and bytes(data[:1]) == b'\x79'
+
+
+def fitted(e):
+    """an EDID without the formats that its link does not carry"""
+    import check
+    place = one_cta(e)
+    x = read_ext(e[place:place + 128])
+    every = check.blocks_of(e)
+    is_left = lambda code, halved: code not in check.PACE_OF or not check.is_beyond(
+        every, check.PACE_OF[code][0], check.WIDTH_OF.get(code, 0), check.PACE_OF[code][1], halved)
+    plain = lambda c: c - 128 if 129 <= c <= 192 else c
+    svds = [c for tag, data in every if tag == 2 for c in data]
+    stays = [is_left(plain(c), False) for c in svds]
+    blocks = b''
+    for _, tag, data in x['blocks']:
+        data = bytes(data)
+        full = len(data)
+        if tag == 2:
+            data = bytes(c for c in data if is_left(plain(c), False))
+            if not data and full: continue
+        elif tag == 7 and data[:1] == b'\x0e':
+            data = data[:1] + bytes(c for c in data[1:] if is_left(plain(c), True))
+            if len(data) == 1 < full: continue
+        elif tag == 7 and data[:1] == b'\x0f' and not all(stays):
+            marks = [i < 8 * len(data[1:]) and data[1 + i // 8] >> i % 8 & 1 for i, stay in enumerate(stays) if stay]
+            data = data[:1] + bytes(sum(1 << k for k in range(8) if i + k < len(marks) and marks[i + k]) for i in range(0, 8 * len(data[1:]), 8))
+        elif is_hdmi(tag, data) and len(data) > 7 and data[7] & 32:
+            end = 8 + 2 * (data[7] >> 7) + 2 * (data[7] >> 6 & 1)
+            told = data[end:end + 2] if len(data) >= end + 2 else b'\0\0'
+            own = any(not is_left(check.HDMI_CODES.get(c, 0), False) for c in check.hdmi_video_codes(data))
+            if own or not all(stays) and (told[0] & 0x60 or told[1] & 31):
+                data = data[:7] + bytes([data[7] & ~32]) + data[8:end]
+        blocks += spell(tag, data)
+    carried = lambda t: not check.is_beyond(every, 10 * (t[0] | t[1] << 8), t[2] | (t[4] >> 4) << 8,
+                                            (t[2] | (t[4] >> 4) << 8) + (t[3] | (t[4] & 15) << 8), False)
+    area = lambda t: (t[2] | (t[4] >> 4) << 8) * (t[5] | (t[7] >> 4) << 8)
+    dummy = bytes([0, 0, 0, 0x10]) + bytes(14)
+    is_timing = lambda d: bool(d[0] or d[1])
+    shown = places(e)
+    left = [dummy if is_timing(d) and not carried(d) else d for d in shown]
+    timings = [t for t in x['timings'] if carried(t)]
+    lost = left != shown or len(timings) < len(x['timings'])
+    if is_timing(shown[0]) and not is_timing(left[0]):
+        there = [d for d in left if is_timing(d)] + timings
+        if there:
+            best = max(there, key=area)
+            at = [i for i, d in enumerate(left) if is_timing(d) and area(d) == area(best)]
+            if at: left[at[0]] = dummy
+            else: timings.remove(next(t for t in timings if area(t) == area(best)))
+            left[0] = best
+    flags = x['flags'] & 0xf0 if lost else x['flags']
+    body = blocks + b''.join(timings)
+    ext = mend(bytes([2, 3, len(blocks) + 4, flags]) + body.ljust(123, b'\0') + b'\0')
+    return mend(e[:54] + b''.join(left) + e[126:128]) + e[128:place] + ext + e[place + 128:]
 
 
 def rows_of(text):
     """the rows, or None"""
-    rows = dict(ROWS)
+    rows = dict(ROWS, video=None)
     for row in text.split(',') if text is not None else []:
         kind, _, word = row.partition('=')
         if kind not in rows or word not in words_of(kind): return None

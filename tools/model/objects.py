@@ -156,6 +156,12 @@ AUDIT = [(kind, section, remark, re.compile(form)) for kind, section, remark, fo
     ('unfinished', '6.1.2', True, r'ends after block (?P<block>\d+) without EOM'),
     ('attempt', '6.1.2', False, BLOCK + '(?P<most>)'),
     ('too-many-attempts', '7.1', True, BLOCK + r' of at most (?P<most>\d+)'),
+    ('goes-on', '7.1', True, r'goes on after block (?P<block>\d+), which was not taken, by initiator (?P<initiator>.)'),
+    ('stops', '6.1', True, r'stops after slot (?P<slot>\d+) by initiator (?P<initiator>.)'),
+    ('lone-start', '5.2.1', True, r'low for (?P<width>\d+) and nothing after it'),
+    ('arbitration-lost', '7.2', False, 'arbitration lost'),
+    ('cut-by-the-end', None, False, 'cut by the end'),
+    ('mid-frame', None, False, 'begins in mid frame'),
     ('moved', '10.1', False, r'(?P<initiator>.) reported (?P<before>\S+) before'),
     ('receivers', '13', True, r'to all, only for one device|to one device, only for all'),
     ('operands', '13', True, r'operands (?P<count>\d+), at least (?P<least>\d+)'),
@@ -168,11 +174,21 @@ ALL = [
     ('sender', re.compile(r'from (?P<initiator>.): (?P<taken>\d+) taken, (?P<not_taken>\d+) not taken, (?P<broken>\d+) broken')),
     ('widths', re.compile(r'(?P<kind>\S+ \S+) (?P<least>\d+)\.\.(?P<greatest>\d+) mean (?P<mean>\d+) of (?P<count>\d+)')),
 ]
-VERDICTS = {'not acknowledged': 'nack', 'refused': 'refused'}
+VERDICTS = {'not acknowledged': 'nack', 'refused': 'refused', '-': None}
+# who is at fault for how a frame ends
+ENDINGS = {'goes-on': 'initiator', 'stops': 'initiator', 'lone-start': 'unknown'}
 
 
 def values(found):
     return {name: VERDICTS.get(word, word) if name in TEXTS else int(word) if word else None for name, word in found.groupdict().items()}
+
+
+def party(kind, said):
+    """what is said of an ending, with who is at fault for it: initiator and follower are the last two"""
+    if kind not in ENDINGS:
+        return said
+    initiator = said.pop('initiator', None)
+    return {**said, 'who': ENDINGS[kind], 'initiator': initiator, 'follower': None}
 
 
 def audit_told_of(line):
@@ -182,7 +198,7 @@ def audit_told_of(line):
         found = form.fullmatch(line[2:])
         if found:
             name = 'remark' if remark else 'note'
-            return {'type': name, name: kind, 'section': section, **values(found)}
+            return {'type': name, name: kind, 'section': section, **party(kind, values(found))}
     for name, form in ALL:
         found = form.fullmatch(line[2:])
         if found:
