@@ -311,7 +311,7 @@ def verdicts_are_drawn(t, b):
            ["refused", as_rgb["refused"], "refused⚠ 1", 1])
     short = drawn(b, " short 0")
     t.same("short", [short["cls"], short["colour"], short["verdict"], short["label"], short["isDashed"], short["senders"]],
-           ["broken", as_rgb["broken"], "short⚠ 2", "short after 0", True, ["p1"]])
+           ["broken", as_rgb["broken"], "short⚠ 1", "short after 0", True, ["p1"]])
     free = drawn(b, "0>0 nack by tv")
     t.same("a poll that nobody took", [free["cls"], free["verdict"], free["claims"]], ["poll", "free", "0"])
     t.same("its loser in the arbitration", [free["losers"], free["outs"]], [["sw"], ["out @1"]])
@@ -704,7 +704,7 @@ TO_LOOK_AT = [
     ["4.000000", "p2 loses the address 8: unplug amp", ""],
     ["6.811600", "4>0 feature-abort 09 unrecognized", ""],
     ["7.000000", "short after 0 of p1", ""],
-    ["7.000000", "slot 1 block 1 bit 1 total 2000 not 2050..2750 and 1 more", ""],
+    ["7.000000", "low drive 3600", ""],
     ["7.500000", "press p1 volume-up: refused not-for-kind", ""],
     ["8.000000", "bad-start", ""],
     ["8.000000", "start low 700 not 3500..3900", ""],
