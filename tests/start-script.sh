@@ -194,9 +194,11 @@ start "$room/checkout/hdminet" check --explain
 check "what is on no terminal has no progress" wrote "one check --explain"
 if command -v script > /dev/null; then
   start script -qec "$room/checkout/hdminet check" /dev/null
-  check "a test on a terminal says how far it is" wrote $'one check --progress\r'
+  check "a test on a terminal says how far it is, and faults are explained" wrote $'one --explain check --progress\r'
   start script -qec "$room/checkout/hdminet check --trace" /dev/null
-  check "one with a trace does not" wrote $'one check --trace\r'
+  check "one with a trace is explained alone" wrote $'one --explain check --trace\r'
+  start script -qec "$room/checkout/hdminet run --explain x" /dev/null
+  check "the flag stands once" wrote $'one run --explain x\r'
 fi
 
 source_is two
