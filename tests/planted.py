@@ -23,8 +23,7 @@ class Tv:
     """The parts of the television's EDID."""
 
     def __init__(self):
-        self.front = bytearray.fromhex("00ffffffffffff004c2d6712010000000c1a0103807944780a8271a75244b0260c50542108008180d1c001010101010101010101010101")
-        self.front = self.front[:54]
+        self.front = bytearray.fromhex("00ffffffffffff004c2d6712010000000c1a0103807944780a8271a75244b0260c50542108008180d1c0010101010101010101010101")
         self.descriptors = [bytearray.fromhex(part) for part in (UHD, FHD, NAME, LIMITS)]
         self.flags = 0xF1
         self.revision = 3
