@@ -9,7 +9,7 @@ import os
 import subprocess
 import sys
 
-from built import TOP, programs, told
+from built import TOP, fails_told
 
 # What a data block begins with, after the byte of its tag and length: an extended tag, or the number of who defined it, its last
 # byte first; and the block's name.
@@ -834,16 +834,7 @@ def bits_fail(program):
 
 
 def main():
-    passed, failed = 0, []
-    for program in programs():
-        for fails in (names_fail, fields_fail, blocks_fail, base_fails, descriptors_fail, parts_fail, bits_fail):
-            for it in fails(program):
-                passed += it is True
-                if it is not True:
-                    failed.append(it)
-    if not passed:
-        failed.append("there is no program: ./hdminet builds it")
-    return told("blocks", passed, failed)
+    return fails_told("blocks", [names_fail, fields_fail, blocks_fail, base_fails, descriptors_fail, parts_fail, bits_fail])
 
 
 if __name__ == "__main__":

@@ -18,3 +18,33 @@ def told(what, passed, failed):
         print("%s: fails: %s" % (what, it))
     print("%s: %d passed, %d failed" % (what, passed, len(failed)))
     return 1 if failed else 0
+
+
+def rows_told(what, kinds, fault):
+    """Tries the rows of some kinds, each of a name, a text and what is due, over each program, and tells how many pass; `fault` says of a
+    program, a kind, a text and what is due why it is not so."""
+    passed, failed = 0, []
+    for program in programs():
+        for kind in kinds:
+            for name, text, due in kind():
+                why = fault(program, kind, text, due)
+                if why:
+                    failed.append("%s: %s: %s" % (kind.__name__.replace("_", " "), name, why))
+                else:
+                    passed += 1
+    return told(what, passed, failed)
+
+
+def fails_told(what, kinds):
+    """Tries some kinds over each program, each of which yields True of a case that is right and else how it is not, and tells how many
+    pass."""
+    passed, failed = 0, []
+    for program in programs():
+        for fails in kinds:
+            for it in fails(program):
+                passed += it is True
+                if it is not True:
+                    failed.append(it)
+    if not passed:
+        failed.append("there is no program: ./hdminet builds it")
+    return told(what, passed, failed)

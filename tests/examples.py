@@ -110,7 +110,9 @@ def main():
             done = subprocess.run([program, *words], input=data, capture_output=True, cwd=EXAMPLES, timeout=LIMIT)
         except subprocess.TimeoutExpired:
             return None, b"", "%d seconds" % LIMIT
-        return done.returncode, done.stdout, done.stderr.decode(errors="replace")
+        # The verdict of a line that is not fine is no fault.
+        told = "".join(line for line in done.stderr.decode(errors="replace").splitlines(True) if not line.startswith("hdminet: verdict "))
+        return done.returncode, done.stdout, told
 
     def comes_back(program, name):
         """The faults of a text, which is written again of its bytes."""

@@ -11,8 +11,8 @@ Each file of tests/explain/ is a table of rows written by hand, and its ending s
     .says    a command line, an input with `;` for each line feed, and a part of what is said; or a front, a command line and a text,
              and below `--` a part of the text, what stands in its place, and a part of what is said
     .flags   command lines with an empty input: of taken.flags no value is named; the others are refused, and with the last line of what
-             is said (meant.flags), a value that its flag does not take and what it has to be (values.flags), or a flag that lacks its
-             value, and what that has to be (missing.flags)
+             is said (meant.flags), a value that its flag does not take and what it has to be (values.flags), a flag that lacks its
+             value, and what that has to be (missing.flags), or the rules that they break, parted by `|` (rules.flags)
 
 `\\r`, `\\t`, `\\\\` and `\\u{..}` stand for these characters. PROGRAM is crates/hdminet/out/hdminet, and what Rattle's own compiler makes of
 the same sources, hdminet.by-rattle beside it, where none is given. The last line is 'explain: N passed, M failed', and the status is 0
@@ -29,9 +29,8 @@ from built import TOP, programs, told
 TABLES = os.path.join(TOP, "tests/explain")
 SIGNS = {"r": "\r", "t": "\t", "\\": "\\"}
 HELP = "For more information, try '--help'."
-RULES = "error: a value is none of its flag, or flags do not go together\n\n"
-# Flags of each subcommand that do not go together, each with a value that it takes.
-APART = ["run --as vcd", "check --glitch 50", "mon --strict --margin 50", "edid --below amp"]
+VALUE = "error: a value is none of its flag\n\n%s\n  %s\n"
+RULES = "error: flags do not go together\n\n  %s\n\n%s\n"
 
 Answer = collections.namedtuple("Answer", "status out err")
 
@@ -43,8 +42,9 @@ class Explained:
         self.program, self.passed, self.failed = program, 0, []
 
     def ran(self, line, data=""):
-        """What the program answers to the words of a line."""
-        done = subprocess.run([self.program, *line.split()], input=data.encode(), capture_output=True, timeout=60)
+        """What the program answers to the words of a line, with a text or bytes as its input."""
+        given = data if isinstance(data, bytes) else data.encode()
+        done = subprocess.run([self.program, *line.split()], input=given, capture_output=True, timeout=60)
         return Answer(done.returncode, done.stdout, done.stderr.decode(errors="replace"))
 
     def expect(self, right, what):
@@ -135,11 +135,6 @@ def test_says(tests, text, name):
         tests.expect(is_added and said in explained.err and begins, "%s: %r: %s" % (command, data, said))
 
 
-def rules_of(tests, line):
-    """What is said of flags that do not go together, of the subcommand that a command line has."""
-    return next(tests.ran(apart).err for apart in APART if apart.split()[0] in line.split())
-
-
 def test_flags(tests, text, name):
     """Command lines that are refused, or of which no value is named."""
     for row in rows_of(text):
@@ -151,15 +146,14 @@ def test_flags(tests, text, name):
         elif name == "meant.flags":
             right = refused and answer.err.splitlines()[-1] == rest[0]
         elif name == "values.flags":
-            right = refused and answer.err == rules_of(tests, line) + "  " + rest[0].replace("|", "\n") + "\n"
+            right = refused and answer.err == VALUE % (HELP, rest[0].replace("|", "\n"))
+        elif name == "rules.flags":
+            right = refused and answer.err == RULES % (rest[0].replace("|", "\n  "), HELP)
         else:
             flag, takes = rest
             lacks = "  `%s` lacks its value: %s\n" % (flag.split()[0], takes)
             right = refused and answer.err == "error: a value is required for '%s' but none was supplied\n\n%s\n%s" % (flag, HELP, lacks)
         tests.expect(right, row)
-    for apart in APART:
-        said = tests.ran(apart).err
-        tests.expect(said.startswith(RULES + "  ") and said.endswith("\n\n%s\n" % HELP), apart)
 
 
 # A carriage return within a line, and at its end; and what is said of it.
@@ -210,6 +204,8 @@ def test_others(tests):
     for command, data, said in [
         ("run", "device tv tv 1\nscript\n%send 200000000\n" % pulses, "a script has at most 16384 pulses and pulls, and a pulse stands after fewer than 4096"),
         ("run", "#" * 1_048_577, "standard input has at most 1048576 bytes, a capture with `--from` 67108864"),
+        ("edid --hex", b"\x00" + b"\xff" * 6 + b"\x00", "these are the bytes of an EDID, which `edid` reads without `--hex`"),
+        ("edid --hex", "00ffffffffffff00".encode("utf-16"), "this looks like UTF-16; a dump has one byte a character, as `iconv -f utf-16 -t utf-8` writes it"),
         ("live", "device tv tv 1\nscript\n" + "#" * 4_097, "a line of a session has at most 4096 bytes"),
         (
             "edid --text",

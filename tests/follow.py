@@ -76,7 +76,9 @@ class Bus:
 
 def watched(form, text, *flags):
     done = subprocess.run([PROGRAM, 'mon', '--from', form, *flags], input=text.encode(), capture_output=True)
-    return done.returncode, done.stdout.decode(), done.stderr.decode()
+    # The verdict of a line that is not fine is said of a whole capture alone.
+    told = ''.join(line for line in done.stderr.decode().splitlines(True) if not line.startswith('hdminet: verdict '))
+    return done.returncode, done.stdout.decode(), told
 
 
 def reads_edges_at_once():
@@ -126,6 +128,14 @@ def reads_rows_at_once():
         right = right and bus.is_quiet()
         bus.send(row(begin + 110000, 1))
         right = right and bus.line() == '%d %d complete 4>f active-source 1.0.0.0 ok\n' % (begin, begin + 4500 + 39 * 2400 + 1050)
+    right = bus.ends_well() and right
+    bus = Bus('csv')
+    bus.send('Time [ms],CEC\n0,High\n')
+    for at, level in edges_of([(0x4F, 0, 1), (0x82, 0, 1), (0x10, 0, 1), (0x00, 1, 1)], 20000):
+        bus.send('%d.%03d,%s\n' % (at // 1000, at % 1000, ('Low', '3.3')[level]))
+    right = right and bus.is_quiet()
+    bus.send('130,1.4\n')
+    right = right and bus.line() == '20000 119150 complete 4>f active-source 1.0.0.0 ok\n'
     return bus.ends_well() and right
 
 
@@ -239,8 +249,45 @@ def random_capture(form, number):
     return text + ['%d end\n' % (edges[-1][0] + r.randrange(0, 20000))]
 
 
-ASKED = [('--from-start',), ('--audit',), ('--timing',), ('--from-start', '--json'), ('--audit', '--json'), ('--audit', '--strict'), ('--timing', '--json', '--strict'), ('--from-start', '--invert'), ('--from-start', '--glitch', '60'),
+ASKED = [('--from-start',), ('--from-idle',), ('--from-idle', '--json'), ('--from-idle', '--glitch', '60'), ('--from-idle', '--invert'), ('--from-start', '--fold'), ('--from-start', '--fold', '--json'), ('--from-idle', '--fold'), ('--from-start', '--fold', '--glitch', '60'), ('--audit',), ('--timing',), ('--from-start', '--json'), ('--audit', '--json'), ('--audit', '--strict'), ('--timing', '--json', '--strict'), ('--from-start', '--invert'), ('--from-start', '--glitch', '60'),
          ('--audit', '--glitch', '60'), ('--audit', '--invert', '--glitch', '300')]
+
+
+def waits_until_the_line_is_idle():
+    """With --from-idle nothing comes before the line has been high for 7,200, then one line for what was read before, and from there on
+    each reading at once; where it never is, that line comes with the end of the pipe."""
+    bus = Bus('edges', ('--from-idle',))
+    for at, level in ((1000, 0), (1600, 1), (3400, 0), (4000, 1)):
+        bus.send(edge_line(at, level))
+    right = bus.is_quiet()
+    bus.send(edge_line(11200, 0))
+    right = right and bus.line() == '0 11200 joined -\n' and bus.is_quiet()
+    bus.send(edge_line(14200, 1))
+    right = right and bus.line() == '11200 14200 bad-start -\n' and bus.ended()[0] == 1
+    bus = Bus('pin', ('--from-idle',))
+    bus.send(HEAD + pin_line(0, 0) + pin_line(5000, 1))
+    right = right and bus.is_quiet()
+    bus.send(pin_line(12199, 1))
+    right = right and bus.is_quiet()
+    bus.close()
+    return bus.ended() == (0, '0 12199 joined -\n', '') and right
+
+
+def folds_bad_starts():
+    """With --fold bad starts in a row wait until another reading is over, and come before it as one line; the last ones come with the end
+    of the pipe."""
+    bus = Bus('edges', ('--fold',))
+    for at, level in ((1000, 0), (1400, 1), (2000, 0), (2400, 1)):
+        bus.send(edge_line(at, level))
+    right = bus.is_quiet()
+    frame = edges_of([(0x44, 1, 0)], 20000)
+    for at, level in frame:
+        bus.send(edge_line(at, level))
+    right = right and bus.line() == '1000 2400 bad-starts 2\n' and bus.line() == '20000 47150 complete 4>4 ack\n'
+    bus.send(edge_line(100000, 0) + edge_line(100300, 1) + '200000 end\n')
+    right = right and bus.is_quiet()
+    bus.close()
+    return bus.ended() == (0, '100000 100300 bad-start -\n', '') and right
 
 
 def is_text_of_the_whole():
@@ -289,7 +336,7 @@ def fails_to_write():
 
 def takes_no_memory():
     """An hour of a busy bus leaves the program as small as it was, with an audit too."""
-    return is_small(()) and is_small(('--audit',)) and is_small(('--audit', '--json', '--strict', '--glitch', '50'))
+    return is_small(()) and is_small(('--from-idle', '--fold')) and is_small(('--audit',)) and is_small(('--audit', '--json', '--strict', '--glitch', '50'))
 
 
 def is_small(flags):
@@ -308,7 +355,7 @@ def is_small(flags):
 
 def main():
     failed = 0
-    tests = [reads_edges_at_once, reads_pins_at_once, reads_rows_at_once, remarks_at_once, objects_at_once, waits_for_the_shortest_pulse, turns_levels, is_text_of_the_whole, has_faults, fails_to_write, takes_no_memory]
+    tests = [reads_edges_at_once, reads_pins_at_once, reads_rows_at_once, remarks_at_once, objects_at_once, waits_for_the_shortest_pulse, turns_levels, waits_until_the_line_is_idle, folds_bad_starts, is_text_of_the_whole, has_faults, fails_to_write, takes_no_memory]
     for test in tests:
         right = test()
         failed += not right

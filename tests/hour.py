@@ -4,7 +4,7 @@
 A living room is used for an hour: a key every second or so, devices that come and go. The line of its run, on which senders meet
 and lose arbitration, is drawn anew with other widths, each within the windows of the standard (CEC 5.2), and written in each form
 that `mon` reads, once with chatter. Of each, `mon --audit --strict` has no remark, and the frames of its readings are those of the
-trace. Where they are installed, cec-ctl and sigrok-cli have to read the same frames. PROGRAM is crates/hdminet/out/hdminet, which
+trace; `mon --report` has no fault and no note of what a device says. Where they are installed, cec-ctl and sigrok-cli have to read the same frames. PROGRAM is crates/hdminet/out/hdminet, which
 ./hdminet builds, where none is given. The last line is 'hour: N passed, M failed', and the status is 0 where M is 0."""
 import importlib.machinery
 import importlib.util
@@ -183,6 +183,9 @@ def main():
             count.note('%s: status %d, %s' % (what, status, said.strip() or [line for line in text.splitlines() if line.startswith(' ')][:3]), status == 0)
             count.note('%s: %d frames, and not the %d of the trace' % (what, len(complete), len(frames)), complete == frames)
             count.note('%s: %d other lines, %d in the trace' % (what, len(others), len(broken)), len(others) == len(broken))
+    told, said, status = output(['mon', '--from', 'edges', '--report', '--strict'], as_edges(edges_of(lows), end))
+    broken_rules = [line for line in told.splitlines() if line.split()[0] in ('fault', 'note')]
+    count.note('a report: status %d, %s' % (status, said.strip() or broken_rules[:3]), status == 0 and not broken_rules)
     ask_others(count, lows)
     print('hour: %d passed, %d failed' % (count.passed, count.failed))
     sys.exit(1 if count.failed else 0)

@@ -23,9 +23,14 @@ ROOM, CAPTURE, WORDS, REPORT = "values_of_retries", "values_of_a_capture", "word
 EVENING, LOOSE, SEARCH = "values_of_an_evening", "values_of_a_loose_device", "searches_find"
 FOLDED, PASSED = "retries_are_folded", "passed_on_edids_are_shown"
 BYTES, REACHED, FIT, LIVE_BYTES = "bytes_are_shown", "bytes_are_reached", "bytes_fit", "live_bytes_are_run"
+VERDICTS = "verdicts_are_shown"
 
 # What is wrong, the file of view/, what stands there and what is planted, and the test that is to fail.
 PLANTS = [
+    ("a verdict that is fine", "words.js", "export const FINE = ['fine', 'mid-frame'];", "export const FINE = ['fine'];", VERDICTS),
+    ("the value of a verdict's flag", "view.js", "[hint, value].filter(Boolean)", "[hint].filter(Boolean)", VERDICTS),
+    ("a verdict that comes later", "view.js", "isAdded(text) || isVerdict(text) ||", "isAdded(text) ||", VERDICTS),
+    ("a remedy of another verdict", "words.js", "'mid-frame': 'The first", "'in-frame': 'The first", VERDICTS),
     ("a window of CEC 5.2", "slots.js", "one: [400, 800]", "one: [400, 900]", ROOM),
     ("the names of addresses", "texts.js", "model.addresses.set(initiator, sender)", "model.addresses.set(destination, sender)", WORDS),
     ("takes it, and is taken", "words.js", "(verdict === 'nack' ? 'Nobody", "(verdict !== 'nack' ? 'Nobody", ROOM),

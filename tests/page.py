@@ -2115,18 +2115,19 @@ def as_dump(rows, *, other=False, inverted=False, chatter=False):
 
 
 def advice_is_shown(t, b):
-    """What the program advises on standard error stands above the run, which opens as it is read best; a button reads it
+    """What the program advises, by its verdict and of wires, stands above the run, which opens as it is read best; a button reads it
     otherwise. The readings are those of the program with these flags."""
     rows = [line.split() for line in program(RETRIES, "run", "--edges").splitlines()]
     frames = program("".join(f"{at} {level}\n" for at, level in rows), "mon").count(" complete ")
     for name, text, flags, says in [
-            ("inverted.vcd", as_dump(rows, inverted=True), ["--invert"], "the line is low most of the time"),
-            ("chatter.vcd", as_dump(rows, chatter=True), ["--glitch", "100"], "pulses and gaps are shorter than 100 microseconds"),
-            ("other.vcd", as_dump(rows, other=True), ["--signal", "CEC"], "--signal takes one of SDA, CEC"),
-            ("slow.edges", slower(rows, 6), ["--margin", "70"], f"--margin 70 reads {frames} frames more")]:
+            ("inverted.vcd", as_dump(rows, inverted=True), ["--invert"], ""),
+            ("chatter.vcd", as_dump(rows, chatter=True), ["--glitch", "20"], ""),
+            ("other.vcd", as_dump(rows, other=True), ["--signal", "CEC"],
+             "The program says: the first wire has no edge, --signal takes one of SDA, CEC. "),
+            ("slow.edges", slower(rows, 6), ["--margin", "70"], "")]:
         show(b, written(name, text))
         banner = b.js("document.getElementById('banner').textContent")
-        t.holds(f"{name}: the banner", banner.startswith(f"Read with {' '.join(flags)}. The program says: ") and says in banner, banner)
+        t.holds(f"{name}: the banner", f"Read with {' '.join(flags)}. {says}" in banner, banner)
         t.same(f"{name}: the way back", b.js("[...document.querySelectorAll('#banner button')].map(one => one.textContent)")[0],
                f"Read as it is: {frames} frames fewer")
         read = [line for line in program(text, "mon", "--audit", *flags).splitlines() if not line.startswith(" ")]
@@ -2142,16 +2143,86 @@ def advice_is_shown(t, b):
         offer = b.js("[...document.querySelectorAll('#banner button')].map(one => one.textContent)")
         t.holds(f"{name}: the button", f"Read with {' '.join(flags)}: {frames} frames more" in offer, offer)
     show(b, written("asked.edges", slower(rows, 6)), "--margin", "200")
-    t.same("as asked for, nothing is advised", b.js("document.getElementById('banner').hidden"), True)
+    t.same("as asked for, nothing is advised", b.js("document.querySelectorAll('#banner p:not(.verdict)').length"), 0)
     lost = "# cec-ctl --store-pin\n0.000000000 1\n0.012000000 65536\n0.015700000 1\n0.100000000 1\n"
     show(b, written("lost.pin", lost))
-    t.same("lost events", b.js("document.getElementById('banner').textContent"),
-           "The program says: events were lost before line 3. ")
+    t.same("lost events", b.js("[...document.querySelectorAll('#banner p:not(.verdict)')].map(one => one.textContent)"),
+           ["The program says: events were lost before line 3. "])
     for name in ("capture.csv", "capture.pin"):
         show(b, os.path.join(EXAMPLES, name))
         # examples/capture.edges is the same line
         wanted = [int(line.split()[0]) for line in example("capture.edges").splitlines() if re.match(r"\d+ [01]$", line)]
         t.same(f"{name} has a wave", b.js("testing.app.model.wave.line.changes"), wanted)
+
+
+BANNER = "[document.getElementById('banner').hidden, [...document.querySelectorAll('#banner p')].map(one => [one.className, one.textContent])]"
+
+
+def verdict_of(word, says, *, hint=None, value=None, more=None):
+    """The object of a verdict (docs/json.md)."""
+    said = f", more frames with {hint}{'' if value is None else f' {value}'}: {more}" if hint else ""
+    return json.dumps({
+        "line": f"verdict {word}: {says}{said}", "type": "verdict", "word": word, "sentence": says, "in_order": None, "frames": None,
+        "micros": None, "count": None, "hint": hint, "value": value, "more": more}, separators=(",", ":"))
+
+
+def verdicts_are_shown(t, b):
+    """The verdict of a capture stands above it, with what to do: objects by hand, on the page alone."""
+    reading = ('{"line":"100000 127150 complete 4>0 ack","type":"reading","begin":100000,"close":127150,"ending":"complete","frame":"4>0",'
+               '"initiator":"4","destination":"0","bytes":"40","verdict":"ack"}')
+    b.open(BARE)
+    t.same("no capture", b.js(BANNER), [True, []])
+    for verdict, wanted in [
+            (verdict_of("fine", "a CEC line, frames in order: 1 of 1"), ["verdict fine", "✓ fine: a CEC line, frames in order: 1 of 1. "]),
+            (verdict_of("mid-frame", "a CEC line, the capture begins within a frame, frames in order: 1 of 1"),
+             ["verdict fine", "✓ mid-frame: a CEC line, the capture begins within a frame, frames in order: 1 of 1. "
+              "The first readings are the rest of the frame within which the capture begins."]),
+            (verdict_of("rate", "edges stand at multiples of 500 us"),
+             ["verdict wrong", "⚠ rate: edges stand at multiples of 500 us. Sample each 250 microseconds at least, better each microsecond."]),
+            (verdict_of("nearly", "times are a little out of the windows of CEC", hint="--margin", value=40, more=3),
+             ["verdict wrong", "⚠ nearly: times are a little out of the windows of CEC, more frames with --margin 40: 3. mon --margin 40"]),
+            (verdict_of("inverted", "the levels are turned, idle is low", hint="--invert", more=2),
+             ["verdict wrong", "⚠ inverted: the levels are turned, idle is low, more frames with --invert: 2. mon --invert"]),
+            (verdict_of("<b>new</b>", "a word of a later program"), ["verdict wrong", "⚠ <b>new</b>: a word of a later program. "])]:
+        load(b, reading, verdict)
+        t.same(f"a verdict: {wanted[1][:20]}", b.js(BANNER), [False, [wanted]])
+        t.same("no note", b.js("hdminet.app.model.faults"), [])
+    load(b, reading)
+    t.same("a capture without a verdict", b.js(BANNER), [True, []])
+    # One that comes later belongs to the capture that is there.
+    b.js("hdminet.app.loadGiven([{ name: 'x.verdict', text: %s }])" % json.dumps(verdict_of("odd", "much is not as the standard has it")))
+    t.same("beside the capture", [b.js("hdminet.app.model.rounds.length"), b.js(BANNER)[1][0][0]], [1, "verdict wrong"])
+    # Of each word that docs/mon.md has there is something to do, or a flag.
+    table = read(os.path.join(TOP, "docs/mon.md")).split("## The verdict")[1].split("\n- ")[0]
+    words = {word for row in re.findall(r"^\| (`[a-z`, -]*) \|", table, re.M) for word in re.findall(r"`([a-z-]+)`", row)}
+    flagged = {word for row in re.findall(r"^\| (`[a-z`, -]*) \| .* \| `--", table, re.M) for word in re.findall(r"`([a-z-]+)`", row)}
+    t.same("words with a remedy", sorted(b.js("Object.keys(hdminet.REMEDIES)")), sorted(words - (flagged - {"odd"}) - {"fine"}))
+
+
+def verdicts_are_the_programs(t, b):
+    """The page of a capture has the verdict of each reading, and a button for the reading that its flag gives."""
+    if "--verdict" not in program("", "mon", "--help"):
+        return
+    rows = [line.split() for line in program(RETRIES, "run", "--edges").splitlines()]
+    for name, text, given in [
+            ("straight.edges", slower(rows, 0), []), ("turned.vcd", as_dump(rows, inverted=True), []), ("late.edges", slower(rows, 6), []),
+            ("asked.edges", slower(rows, 6), ["--margin", "200"]), ("still.edges", "12000 end\n", []), ("tenth.edges", slower(rows, -90), [])]:
+        show(b, written(name, text), *given)
+        readings = b.js("hdminet.app.data.readings.map(one => [one.flags, one.frames, one.hints])")
+        for index, (flags, frames, hints) in enumerate(readings):
+            b.js(f"hdminet.app.openReading({index})")
+            told = json.loads(program(text, "mon", "--verdict", "--json", *TOOL.without(flags.split(), "--margin")))
+            kind, shown = b.js(BANNER)[1][0]
+            is_fine = told["word"] in ("fine", "mid-frame")
+            t.same(f"{name} {flags}: how it is marked", kind, f"verdict {'fine' if is_fine else 'wrong'}")
+            says = told["line"].removeprefix(f"verdict {told['word']}: ")
+            t.holds(f"{name} {flags}: what it says", shown.startswith(f"{'✓' if is_fine else '⚠'} {told['word']}: {says}. "), shown)
+            t.same(f"{name} {flags}: its flag is a reading", bool(hints), bool(told["hint"]) and "--margin" not in flags)
+            for other in hints:
+                t.same(f"{name} {flags}: so many frames more", readings[other][1] - frames, told["more"])
+                asked = f"Read with {readings[other][0]}: {told['more']} frame{'' if told['more'] == 1 else 's'} more"
+                buttons = b.js("[...document.querySelectorAll('#banner button')].map(one => one.textContent)")
+                t.same(f"{name} {flags}: one button", buttons.count(asked), 1)
 
 
 def attempts_are_the_audits(t, b):
@@ -2167,16 +2238,19 @@ def attempts_are_the_audits(t, b):
 
 
 def tool_is_imported(t, b):
-    """tools/page as a module: the flags that a line of the program advises, by hand."""
+    """tools/page as a module: the flags that a line of the program and a verdict advise, by hand."""
     tool = page_tool()
     for line, given, wanted in [
             ("the first wire has no edge, --signal takes one of SDA, CEC", [], [["--signal", "SDA"], ["--signal", "CEC"]]),
-            ("--margin 200 reads 3 frames more", ["--invert"], [["--invert", "--margin", "200"]]),
-            ("9 pulses and gaps are shorter than 100 microseconds, --glitch 100 passes over them", [], [["--glitch", "100"]]),
-            ("the line is low most of the time, --invert reads it the other way round", [], [["--invert"]]),
-            ("with --invert the line is low most of the time", ["--margin", "9", "--invert"], [["--margin", "9"]]),
             ("events were lost before line 3", [], [])]:
-        t.same(f"advice: {line}", tool.advised(line, given), wanted)
+        t.same(f"advice: {line}", tool.wires_told(line, given), wanted)
+    for hint, value, given, wanted in [
+            ("--margin", 40, [], [["--margin", "40"]]), ("--margin", 40, ["--margin", "10", "--invert"], []),
+            ("--glitch", 120, ["--glitch", "50", "--invert"], [["--invert", "--glitch", "120"]]),
+            ("--invert", None, ["--glitch", "9"], [["--glitch", "9", "--invert"]]), ("--invert", None, ["--invert"], [[]]), (None, None, [], [])]:
+        verdict = verdict_of("odd", "", hint=hint, value=value, more=1).encode()
+        t.same(f"verdict: {hint} {value}", tool.hinted(verdict, given), wanted)
+    t.same("no verdict", tool.hinted(b"", []), [])
     # Bytes that are no UTF-8, and characters that end lines elsewhere, in the lines that are passed over
     room = LOOSE.encode().replace(b"script\n", "script\n# \u0085 \u2028\n".encode() + b"# \xff\x0c\n\n")
     pages, _ = tool.texts_of("x.net", room, [])
@@ -2226,7 +2300,7 @@ def pages_are_made(t, b):
     t.same("the rules that an EDID breaks", found, [
         ["fail srgb", "bit 2 of the features is set exactly where the chromaticities are those of sRGB (E-EDID A, 3.6.4)",
          "here: features 0a", "byte 018"],
-        ["fail out-of-range", "video codes, established and standard timings are within the range limits (E-EDID A, 3.10.3.3)",
+        ["fail out-of-range", "video codes, established, standard and DisplayID timings are within the range limits (E-EDID A, 3.10.3.3)",
          "here: video code 96, field rate 50.000 Hz, 8.000 Hz below 58 Hz", *(["byte 086"] if has_fields() else [])]])
     size = os.path.getsize(BARE)
     t.holds("the page without data is below 300 KB", size < 300000, size)
@@ -2370,7 +2444,8 @@ def sources_are_plain(t, _):
 
 
 ALL = [sources_are_plain, verdicts_are_drawn, colours_differ, retries_are_folded, wave_is_drawn, other_lines_are_noticed,
-       capture_is_drawn, advice_is_shown, attempts_are_the_audits, words_are_the_standards, reports_are_shown, values_of_an_evening,
+       capture_is_drawn, advice_is_shown, verdicts_are_shown, verdicts_are_the_programs,
+       attempts_are_the_audits, words_are_the_standards, reports_are_shown, values_of_an_evening,
        values_of_retries, values_of_a_loose_device, states_are_the_sessions, values_of_a_capture, passed_on_edids_are_shown, failures_are_drawn, keys_reach_all, searches_find, other_sizes_fit, runs_stand_beside, live_page_runs, edits_are_the_tools, live_server_is_careful, mouse_works, hostile_inputs_are_harmless,
        inferences_are_the_programs, bytes_are_shown, bytes_are_reached, bytes_fit, bytes_are_the_programs, live_bytes_are_run,
        sentences_are_the_programs, dumps_are_read, tool_is_imported, files_may_be_dropped, pages_are_made,

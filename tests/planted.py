@@ -42,6 +42,8 @@ class Tv:
         self.tail = b""
         self.begin = None
         self.last = []
+        # The data blocks of a DisplayID extension, and a block map before it, where there is one.
+        self.section = None
 
     def extension(self):
         blocks = b"".join(bytes([tag << 5 | len(payload)]) + payload for tag, payload in self.blocks)
@@ -49,9 +51,15 @@ class Tv:
         body = bytes([2, self.revision, begin, self.flags]) + blocks + b"".join(self.timings) + self.tail
         return body + bytes(127 - len(body))
 
+    def displayid(self):
+        section = bytes([0x20, len(self.section), 3, 0]) + self.section
+        body = b"\x70" + section + bytes([-sum(section) % 256])
+        return body + bytes(127 - len(body))
+
     def bytes(self):
         made = []
-        for block in (self.front + b"".join(self.descriptors) + b"\1", self.extension()):
+        others = [self.extension()] if self.section is None else [b"\xf0\2\x70" + bytes(124), self.extension(), self.displayid()]
+        for block in [self.front + b"".join(self.descriptors) + bytes([len(others)])] + others:
             block = bytearray(block)
             assert len(block) == 127, len(block)
             for number, at, value in self.last:
@@ -123,6 +131,15 @@ def tail(part):
     return change
 
 
+def section(part):
+    """A DisplayID extension with these data blocks."""
+
+    def change(tv):
+        tv.section = bytes.fromhex(part)
+
+    return change
+
+
 def last(number, at, value):
     def change(tv):
         tv.last.append((number, at, value))
@@ -143,6 +160,22 @@ def revision_1_4(tv):
     tv.front[19] = 4
     tv.front[20] = 0xA2
 
+
+# The clause of DisplayID, a format above 140 kHz or 75 Hz, and the data block that has it. Those of types I, II, VI and VII have 2200 pixels a
+# line and 310.2 MHz, which are 141 kHz; 3840x2160 at 64 Hz has 142.46 kHz by reduced blanking of version 2.
+DISPLAYID = [
+    ("1.3 4.4.1", "a timing of type I", "030014" + "2b790004" + "7f07170157802b003704890303800400"),
+    ("1.3 4.4.2", "a timing of type II", "04000b" + "2b790000ef445337042c24"),
+    ("1.3 4.4.3", "1600x1200 at 120 Hz by a timing of type III", "050003" + "02c777"),
+    ("1.3 4.4.4", "the DMT code of 182.9 kHz", "060001" + "4b"),
+    ("1.3 4.4.4", "the video code of 100 Hz", "064001" + "40"),
+    ("1.3 4.4.5", "3840x2160 at 64 Hz by a timing of type V", "110007" + "0000ff0e6f083f"),
+    ("1.3 4.4.6", "a timing of type VI", "13000e" + "b7bb047f073704172f011f2c0204"),
+    ("2.1 4.3.1", "a timing of type VII", "220014" + "b7bb0404" + "7f07170157802b0037042c0003800400"),
+    ("2.1 4.3.2", "the DMT code of 182.9 kHz", "230001" + "4b"),
+    ("2.1 4.3.3", "3840x2160 at 64 Hz by a timing of type IX", "240006" + "02ff0e6f083f"),
+    ("2.1 4.3.4", "3840x2160 at 64 Hz by a timing of type X", "2a0006" + "02ff0e6f083f"),
+]
 
 # The clause, the change, and the findings.
 PLANTS = [
@@ -219,6 +252,22 @@ PLANTS = [
     ("E-EDID A 3.11: an extension of no known kind", last(1, 0, 0x33), ["warn unknown-extension"]),
     ("HDMI 1.4b 8.3.2: a link of 165 MHz and a timing of 594 MHz", both(block(3, "030c000000b8"), without(4)), ["fail link-clock", "fail timing 1 link-clock"]),
     ("HDMI 1.4b 8.3.2: a link of 300 MHz and a timing of 594 MHz", without(4), ["fail link-clock", "fail timing 1 link-clock"]),
+    # Formats of DisplayID, in a CTA block and in a DisplayID extension: the limits are 140 kHz and 600 MHz.
+    (
+        "HDMI 2.1 10.3.2: a link of 600 MHz and a timing of type VII of 605 MHz",
+        more(EXTENDED, "2202473b0904ff0e2f02af8057006f08590007800900"),
+        ["fail link-clock"],
+    ),
+    (
+        "CTA-861-I 7.5.17, E-EDID A 3.10.3.3: a timing of type VII of 151.25 kHz",
+        more(EXTENDED, "220247270904ff0ebf00af8057006f08590007800900"),
+        ["fail out-of-range"],
+    ),
+    ("CTA-861-I 7.5.18, E-EDID A 3.10.3.3: the DMT code of 182.9 kHz in a block of type VIII", more(EXTENDED, "23004b"), ["fail out-of-range"]),
+    ("CTA-861-I 7.5.19, CVT 1.2: a timing of type X of 603.44 MHz and 153.9 kHz", more(EXTENDED, "2a0002ff0e6f0844"), ["fail out-of-range", "fail link-clock"]),
+] + [
+    (f"DisplayID {clause}, E-EDID A 3.10.3.3: {what}", section(part), ["fail out-of-range"])
+    for clause, what, part in DISPLAYID
 ]
 
 # Changes that break nothing.
@@ -235,7 +284,21 @@ FINE = [
     ("no HDR", without(7)),
     ("no colorimetry", without(6)),
     ("a block of another maker", more(VENDOR, "123456aabb")),
-    ("formats in 4:2:0", more(EXTENDED, "0e61")),
+    ("a format in 4:2:0 that no video block lists", more(EXTENDED, "0e66")),
+    ("a timing of type VII with the greatest clock", more(EXTENDED, "2202bf270904ff0e2f02af8057006f08590007800900")),
+    ("a DMT code of a block of type VIII", more(EXTENDED, "230052")),
+    ("a timing of type X within the limits", more(EXTENDED, "2a0002ff0e6f083b")),
+    ("a video code of 100 Hz in a block of type VIII, where codes are of DMT", more(EXTENDED, "234040")),
+    ("a timing of type X by a formula that is not known", more(EXTENDED, "2a0007ff0e6f0844")),
+    ("a DisplayID extension without timings", section("")),
+    ("a timing of type I of 140.9 kHz", section("030014" + "16790004" + "7f07170157802b003704890303800400")),
+    ("a timing of type II of 69 kHz", section("04000b" + "4b3b0000ef445337042c24")),
+    ("1600x1200 at 60 Hz by a timing of type III", section("050003" + "02c73b")),
+    ("a DMT code and a video code", section("060001" + "52" + "064001" + "61")),
+    ("3840x2160 at 60 Hz by a timing of type V", section("110007" + "0000ff0e6f083b")),
+    ("a timing of type VI of 69 kHz, and the size of its image", section("130011" + "f750427f073704172f011f2c0204" + "000000")),
+    ("two timings of type VII", section("220028" + "f7500204" + "7f07170157802b0037042c0003800400" + "f7500204" + "7f07170157802b0037042c0003800400")),
+    ("3840x2160 at 60 Hz by timings of types IX and X", section("240006" + "02ff0e6f083b" + "2a1007" + "02ff0e6f083b00")),
 ]
 
 

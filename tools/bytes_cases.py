@@ -21,7 +21,8 @@ TOOLS = os.path.dirname(os.path.realpath(__file__))
 sys.path += [os.path.join(TOOLS, 'model'), os.path.join(TOOLS, '../tests')]
 import cases as tested  # pylint: disable=wrong-import-position
 
-EDID_FLAGS = [['--text'], ['--words'], ['--hex'], ['--raw'], ['--check'], ['--meaning'], ['--only-address'], ['--ddc'], ['--merge'], ['--eeodb'], ['--as-source'],
+EDID_FLAGS = [['--text'], ['--words'], ['--hex'], ['--raw'], ['--check'], ['--meaning'], ['--only-address'], ['--ddc'], ['--merge'], ['--eeodb'], ['--as-source'], ['--mend'], ['--room'],
+              ['--diff'], ['--eld'], ['--from-eld'], ['--as', 'c'], ['--as', 'xml'], ['--as', 'firmware'], ['--infoframe', '82020d1b 10280010 00000000 00000000 00'],
               ['--address', '2.1.0.0'], ['--port', '3'], ['--below', 'amp'], ['--speakers', 'own'], ['--rows', 'video=own,audio=keep'], ['--nth', '2'], ['--explain']]
 FORMS = ['edges', 'vcd', 'pin', 'csv']
 FLAGS = {
@@ -29,20 +30,25 @@ FLAGS = {
     'check': [['--trace'], ['--plain'], ['--json'], ['--progress'], ['--capture'], ['--explain'], ['--from', 'edges'], ['--glitch', '50'], ['--signal', 'CEC']],
     'step': [['--explain']], 'asm': [['--explain']], 'dis': [['--explain'], ['--meaning']], 'lay': [['--explain']], 'live': [['--explain'], ['--json']],
     'mon': [['--from-start'], ['--from-idle'], ['--invert'], ['--audit'], ['--timing'], ['--strict'], ['--fold'], ['--json'], ['--follow'], ['--explain'],
-            ['--glitch', '50'], ['--margin', '300'], ['--signal', 'CEC']] + [['--from', form] for form in FORMS],
+            ['--report'], ['--verdict'], ['--as-test'], ['--replay', '4'], ['--diff'], ['--scale', '0.5'], ['--glitch', '50'], ['--margin', '300'], ['--signal', 'CEC']]
+    + [['--from', form] for form in FORMS],
     'edid': EDID_FLAGS,
 }
 # Sets of more than two flags that belong together.
 SETS = {
     'run': [['--edges', '--as', 'vcd', '--drives'], ['--edges', '--as', 'vcd', '--drives', '--named'], ['--json', '--room', '--strict', '--explain']],
     'mon': [['--audit', '--json', '--strict'], ['--timing', '--json', '--fold'],
-            ['--timing', '--margin', '20', '--glitch', '50', '--from-start', '--strict', '--json']]
+            ['--timing', '--margin', '20', '--glitch', '50', '--from-start', '--strict', '--json'],
+            ['--report', '--json', '--strict'], ['--report', '--margin', '300', '--json'], ['--verdict', '--json', '--invert'], ['--audit', '--strict', '--explain'],
+            ['--as-test', '--glitch', '50', '--invert'], ['--replay', '0', '--glitch', '50', '--invert'], ['--edges', '--scale', '1.0417', '--invert', '--glitch', '50'], ['--audit', '--scale', '1000', '--json']]
     + [['--from', form, '--follow', flag] for form in FORMS for flag in ('--audit', '--timing', '--from-start', '--json', '--invert')]
     + [['--from', form, '--follow', '--audit', '--json', '--strict'] for form in FORMS],
     'check': [['--capture', '--from', 'edges', '--json'], ['--capture', '--glitch', '50', '--signal', 'CEC'], ['--trace', '--json', '--progress']],
     'edid': [['--port', '2', '--below', 'amp', '--raw'], ['--port', '2', '--below', 'amp', '--speakers', 'own'], ['--text', '--check', '--explain'],
              ['--words', '--meaning', '--explain'], ['--hex', '--nth', '1', '--meaning'], ['--merge', '--rows', 'video=own,audio=keep', '--raw'],
-             ['--as-source', '--check', '--explain']],
+             ['--as-source', '--check', '--explain'], ['--mend', '--eeodb', '--raw'], ['--mend', '--check', '--explain'], ['--room', '--json', '--port', '2'],
+             ['--eld', '--json', '--port', '2'], ['--eld', '--meaning', '--hex'], ['--diff', '--hex', '--json'], ['--eeodb', '--as', 'xml'],
+             ['--infoframe', '84010a70 01000000 00000000 0000', '--json', '--port', '2']],
 }
 # Of which subcommands an example with such an ending is an input.
 ENDINGS = [('.net', ['run', 'check', 'live']), ('.test', ['check', 'run']), ('.sweep', ['check']), ('.expect', ['check']), ('.steps', ['step']), ('.lay', ['lay']),
@@ -52,7 +58,7 @@ ENDINGS = [('.net', ['run', 'check', 'live']), ('.test', ['check', 'run']), ('.s
 TABLED = ['living-room.edid', 'monitor-1.4.edid']
 # How many of a hundred generated inputs each generator of tools/model makes; those that run the model for it are slow.
 SHARES = {'run': 6, 'feat': 4, 'ops': 3, 'wire': 1, 'pulls': 8, 'pins': 8, 'amp': 8, 'edges': 2, 'mon': 6, 'fold': 6, 'audit': 6, 'step': 3, 'asm': 8,
-          'edid': 5, 'edtext': 6, 'merge': 4, 'check': 5, 'ways': 4, 'met': 2, 'expect': 1, 'sweep': 1, 'capture': 1, 'json': 1, 'odd': 4}
+          'edid': 5, 'edtext': 6, 'merge': 4, 'check': 5, 'ways': 4, 'room': 2, 'met': 2, 'expect': 1, 'sweep': 1, 'capture': 1, 'json': 1, 'odd': 4}
 # The longest input of a case, of one that is damaged, and of a run's line that is.
 LONGEST, LONGEST_DAMAGED, LONGEST_LINE = 400000, 20000, 100000
 COMMANDS = ['run', 'check', 'step', 'live', 'asm', 'dis', 'lay', 'mon', 'edid']

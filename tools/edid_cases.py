@@ -8,8 +8,8 @@ TAGS = {'audio': 1, 'video': 2, 'vendor': 3, 'speakers': 4, 'extended': 7}
 HDMI_MAKER, HDMI_ADDRESS = b'\x03\x0c\x00', b'\x10\x00'
 # Tags of descriptors, the last of which is a dummy.
 DESCRIPTORS = (0xf7, 0xf8, 0xf9, 0xfa, 0xfb, 0xfc, 0xfd, 0xfe, 0xff, 0x10)
-# The tags of blocks of DisplayID 1.3 and 2.0 that say what a display can do.
-DISPLAYID_TAGS = (0x00, 0x01, 0x03, 0x07, 0x0f, 0x12, 0x13, 0x20, 0x22, 0x26, 0x28, 0x29, 0x7e, 0x81)
+# The tags of blocks of DisplayID 1.3 and 2.1.
+DISPLAYID_TAGS = (*range(0x14), *range(0x20, 0x2c), 0x7e, 0x7f, 0x81)
 AUDIO_THIRD = [0, 1, 2, 3, 4, 8, 16, 32, 64, 128, 255]
 # How long a data block is at most, and data blocks of an extension together, with room for their heads.
 LONGEST, ROOM = 31, 118

@@ -130,7 +130,7 @@ def pieces(line):
 def is_row_of_numbers(piece, line):
     """whether a part of a line is a row of a table of numbers: of three or more, beside no list of texts, in no sum or statement"""
     return (not piece.texts and len(piece.numbers) > 2 and not piece.has_items
-            and bool(re.search(r'∷|^\s*[\(\[{]', line)) and not re.search(r' [-+*/%<=≡]+ ', line))
+            and bool(re.search(r'∷|^\s*[\(\[{]|^\s*[\dx][\da-fx ]*;$', line)) and not re.search(r' [-+*/%<=≡]+ ', line))
 
 
 def rows_of(place, lines, first=1):
@@ -164,11 +164,13 @@ def rows_of_constants(tree):
     for crate, module, name in constants_cited(tree):
         path = '%s/crates/%s/src/%s.rt' % (tree, crate, module.replace('.', '/'))
         source = read(path) if os.path.exists(path) else ''
-        found = re.search(r'\n *pub(?:\(\w+\))? const %s:[^=]*=(.*?);\n' % re.escape(name), source, re.S)
+        # (a public constant, or rows of numbers in a macro)
+        form = r'\n *(?:pub(?:\(\w+\))? const %s:[^=]*=(.*?)|const %s:[^=]*= \w+! \{(\n.*?)\n *\});\n' % ((re.escape(name),) * 2)
+        found = re.search(form, source, re.S)
         if found:
             # (the name of a place of a form stands for a word, and is none)
-            rows = [re.sub(r'Slot::(?!Word\b)\w+, "[^"]*"', '', line) for line in found[1].split('\n')]
-            yield from rows_of('%s/%s.rt' % (crate, module), rows, source.count('\n', 0, found.start(1)) + 1)
+            rows = [re.sub(r'Slot::(?!Word\b)\w+, "[^"]*"', '', line) for line in (found[1] or found[2]).split('\n')]
+            yield from rows_of('%s/%s.rt' % (crate, module), rows, source.count('\n', 0, found.start(1 if found[1] else 2)) + 1)
 
 
 # The files of edid_tables that have the tables of data blocks.
@@ -186,8 +188,23 @@ def rows_of_fields(tree):
                 yield Row('%s/%s:%d' % (crate_of(tree, path), os.path.basename(path), at), [found[1]], [], [])
 
 
+def rows_of_infoframes(tree):
+    """the fields of InfoFrames, each once: its name, and the name with each text of its values, which has the least of these as code"""
+    seen = set()
+    for path in files(tree, 'crates/infoframe_tables/src/*.rt'):
+        for at, line in enumerate(read(path).split('\n'), 1):
+            found = re.match(r' *\d+ \d+ \d+ "([^"$]+)" (\[.*)', line) or re.match(r' *(header_rows)!\((.*)', line)
+            if found:
+                name = 'InfoFrame type' if found[1] == 'header_rows' else found[1]
+                values = [([name, text], [int(least)] if least else []) for least, text in re.findall(r'(?:(\d+) \d+ )?"([^"]*)"', found[2])]
+                for texts, codes in [([name], [])] + values:
+                    if len(core(texts[-1])) > 1 and WORD.search(texts[-1]) and texts[-1] != 'reserved' and tuple(texts) not in seen:
+                        seen.add(tuple(texts))
+                        yield Row('%s/%s:%d' % (crate_of(tree, path), os.path.basename(path), at), texts, [], codes)
+
+
 def all_rows(tree):
-    return list(rows_of_definitions(tree)) + list(rows_of_constants(tree)) + list(rows_of_fields(tree))
+    return list(rows_of_definitions(tree)) + list(rows_of_constants(tree)) + list(rows_of_fields(tree)) + list(rows_of_infoframes(tree))
 
 
 # ---------------------------------------------------------------- crates

@@ -28,6 +28,7 @@ export function build(texts) {
     title: '', objects: [], tests: [], stretches: [], meanings: [], faults: [], lanes: [], rows: [], rounds: [], states: [],
     ports: [], events: [], sentences: new Map(), names: new Map(), addresses: new Map(), decks: new Map(), wave: null,
     room: null, findings: [], bytes: [], parts: [], edid: null, changes: [], ofAll: [], hasAudit: false, isCapture: false, end: 1,
+    verdict: null,
   };
   const waves = [];
   for (const given of texts) {

@@ -425,6 +425,7 @@ const COMMANDS = [
   ['x.net', 'what the events say, and plugs'],
   ['./hdminet check --json < x.test > report.jsonl', 'a report of tests'],
   ['./hdminet mon --timing --json < capture.pin > x.jsonl', 'a capture, its audit and widths'],
+  ['./hdminet mon --verdict --json < capture.pin > x.verdict', 'what a capture is as a whole'],
   ['./hdminet mon --edges < capture.pin > x.edges', 'and its wave: of an edge file or a vcd also the capture itself'],
   ['./hdminet dis --meaning --json < frames.hex > x.meant', 'what frames mean, by their bytes in hex'],
   ['tv.edid', 'an EDID, its bytes; also in hex, as xxd -p writes it'],

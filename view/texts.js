@@ -32,6 +32,9 @@ export function kindOf(text) {
 /* Whether objects are those of an audit: beside a run they tell of its rounds. */
 export const isAudit = text => kindOf(text) === 'objects' && /"type":"(summary|remark|note)"/.test(text);
 
+/* Whether an object is what the program says of a capture as a whole. */
+export const isVerdict = text => kindOf(text) === 'objects' && /"type":"verdict"/.test(text.slice(0, 2000));
+
 /* Whether objects are those of frames and of what they mean. */
 export const isOfFrames = text => kindOf(text) === 'objects' && /"type":"(frame|meaning)"/.test(text.slice(0, 2000));
 
@@ -111,6 +114,8 @@ function addTold(object, model, last) {
     last.reading.widths.push({ kind, least, greatest });
   } else if (type === 'sender' || type === 'widths') {
     if (!last.reading) model.ofAll.push(line.trim());
+  } else if (type === 'verdict') {
+    model.verdict = object;
   } else if (type === 'frame') {
     last.frame = object;
   } else if (type === 'meaning') {
@@ -246,6 +251,8 @@ function cleaned(o) {
       };
     case 'horizon':
       return { type, line, at: asNumber(o.at) };
+    case 'verdict':
+      return { type, line, word: asText(o.word), hint: asText(o.hint), value: asText(o.value), more: asNumber(o.more) };
     case 'finding':
       return { type, line, timing: asNumber(o.timing) };
     case 'part': {

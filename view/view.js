@@ -9,8 +9,8 @@ import { addWave, build, deviceAt, isWave } from './model.js';
 import { commands, drawSweep, help, PANELS } from './panels.js';
 import { acknowledgersOf, slotsOf } from './slots.js';
 import { nearest, Strip, timeInAddress } from './strip.js';
-import { asText, isAudit, isOfBytes, isOfFrames, kindOf, LIMITS, readDump } from './texts.js';
-import { meaningOf } from './words.js';
+import { asText, isAudit, isOfBytes, isOfFrames, isVerdict, kindOf, LIMITS, readDump } from './texts.js';
+import { FINE, meaningOf, REMEDIES } from './words.js';
 import { Wave, wavesHeight } from './wave.js';
 
 const CHIPS = ['ack', 'ok', 'nack', 'refused', 'broken', 'poll', 'event'];
@@ -78,7 +78,6 @@ class App {
     const first = await read(parts.filter(part => !waves.includes(part)));
     if (this.reading !== index) return; // another one was asked for meanwhile
     await this.load(first);
-    this.showBanner();
     if (index === 0) await this.readBeside();
     this.isWaiting = waves.length > 0;
     requestAnimationFrame(() => performance.mark('first picture'));
@@ -127,7 +126,8 @@ class App {
   /* What the program says for the user, and what else the capture may be read with. */
   showBanner() {
     const readings = this.data ? this.data.readings : [];
-    const { frames, flags, said, instant } = readings[this.reading] || { frames: 0, flags: '', said: [], instant: null };
+    const none = { frames: 0, flags: '', said: [], hints: [], instant: null };
+    const { frames, flags, said, hints, instant } = readings[this.reading] || none;
     const inWords = one => (one.flags ? `with ${one.flags}` : 'as it is');
     const more = one => {
       const difference = one.frames - frames;
@@ -140,7 +140,11 @@ class App {
     const from = readings.findIndex(one => one.said.some(line => line.readings.includes(this.reading)));
     const why = from < 0 ? null : readings[from].said.find(line => line.readings.includes(this.reading));
     const isInstant = Number.isFinite(instant);
+    // A line of the program below the verdict may advise the same.
+    const isBelow = index => said.some(line => line.readings.includes(index));
+    const verdict = this.model.verdict && this.verdictLine(hints.filter(index => !isBelow(index)).map(button));
     const lines = [
+      verdict,
       isInstant && html('p', {}, html('b', {}, `The run at ${instant} µs of the sweep. `),
         html('button', { click: () => this.openReading(0) }, 'The whole sweep')),
       this.reading !== 0 && !isInstant && html(
@@ -149,7 +153,21 @@ class App {
     ];
     const banner = byId('banner');
     banner.replaceChildren(html('div', {}, lines));
-    banner.hidden = this.reading === 0 && said.length === 0;
+    const isAlone = this.reading === 0 && said.length === 0;
+    banner.hidden = !verdict && isAlone;
+    banner.classList.toggle('calm', isAlone && Boolean(verdict) && FINE.includes(this.model.verdict.word));
+  }
+  /* What the program says of a capture as a whole, with buttons for the reading that its flag gives, or with that flag. */
+  verdictLine(buttons) {
+    const { word, line, hint, value } = this.model.verdict;
+    const isFine = FINE.includes(word);
+    const says = line.replace(`verdict ${word}: `, '');
+    const asked = [hint, value].filter(Boolean).join(' ');
+    const isRead = !hint || buttons.length > 0 || this.data;
+    return html(
+      'p', { class: `verdict ${isFine ? 'fine' : 'wrong'}` }, html('b', {}, `${isFine ? '✓' : '⚠'} ${word}: `), `${says}. `,
+      REMEDIES[word], buttons, !isRead && html('code', {}, `mon ${asked}`),
+    );
   }
 
   /* Takes texts in the place of those that are there, or beside them. A long wave is added after the first picture. */
@@ -190,6 +208,7 @@ class App {
     byId('title').textContent = model.title || 'hdminet';
     document.title = model.title ? `${model.title} · hdminet` : 'hdminet';
     byId('counts').textContent = this.countsText();
+    this.showBanner();
     this.panel = this.firstPanel();
     const isEmpty = model.rounds.length === 0 && !model.wave && !this.isWaiting;
     for (const id of ['wave', 'wave-bar', 'strip']) byId(id).hidden = isEmpty;
@@ -255,10 +274,9 @@ class App {
   loadGiven(texts) {
     this.data = null;
     this.reading = 0;
-    this.showBanner();
     const isRun = this.model.rounds.length > 0 && !this.model.isCapture;
     const isAdded = text => kindOf(text) !== 'objects' || isOfBytes(text) || isOfFrames(text);
-    const isMore = ({ text }) => isAdded(text) || (isRun && isAudit(text));
+    const isMore = ({ text }) => isAdded(text) || isVerdict(text) || (isRun && isAudit(text));
     const isAnother = this.model.bytes.length > 0 && texts.some(({ text }) => kindOf(text) === 'bytes');
     return this.load(texts, this.texts.length > 0 && !isAnother && texts.every(isMore));
   }
@@ -721,4 +739,4 @@ loadEmbedded(app).catch(fault => {
   app.say(`the data of this page cannot be read: ${fault.message}`);
 });
 /* For the console of the browser, and for tests. */
-window.hdminet = { app, PANELS, acknowledgersOf, deviceAt, kindOf, LIMITS, meaningOf, readDump, slotsOf };
+window.hdminet = { app, PANELS, REMEDIES, acknowledgersOf, deviceAt, kindOf, LIMITS, meaningOf, readDump, slotsOf };

@@ -23,6 +23,24 @@ export const CAUSES = {
   'queue-full': 'sixteen frames wait already',
 };
 
+/* What is to be done about a capture that no flag reads better, by its verdict (docs/mon.md, "The verdict"). */
+export const REMEDIES = {
+  __proto__: null,
+  empty: 'Look at the probe: CEC is pin 13. Press a key of a remote control.',
+  idle: 'Look at the probe: CEC is pin 13. Press a key of a remote control.',
+  'mid-frame': 'The first readings are the rest of the frame within which the capture begins.',
+  'other-wire': 'Look at the wire, the probe and its ground: CEC is pin 13.',
+  unit: 'Give the capture in microseconds.',
+  stuck: 'Look for a short circuit, or for a device that holds the line.',
+  rate: 'Sample each 250 microseconds at least, better each microsecond.',
+  clock: 'Look at the clock of the capture, or of the device.',
+  short: 'Capture for longer.',
+  noise: 'Look at the wire and at the unit of time.',
+  odd: 'The remarks of the audit stand below the readings.',
+};
+/* Verdicts of captures in which nothing is to be put right. */
+export const FINE = ['fine', 'mid-frame'];
+
 const ENDINGS = {
   __proto__: null,
   short: 'A fall came too early for the next slot (2050..2750 after the one before).',

@@ -42,8 +42,8 @@ class Audit:
         self.bad = []               # begins of bad starts in a row
         self.final = None           # where the final bit of the frame before began, and who sent it and whether it was taken
         self.sender = None
-        self.whole = False          # whether it was read whole
-        self.last = {}              # of each initiator: begin, bits, taken, attempt
+        self.whole = False          # whether it ended where it was to
+        self.last = {}              # of each initiator: begin, bits, taken, attempt, begin of the first attempt
         self.busy = 0               # since when no frame has begun five periods after the one before
         self.waiting = []
         self.places = {}
@@ -114,8 +114,16 @@ class Audit:
             self.say('read %x>%x' % (initiator, destination) + (' ' + name if len(bits) >= 20 else ''))
         # what was before
         if not is_bad and len(self.bad) > 1: self.say('after %d bad-start since %d' % (len(self.bad), self.bad[0]))
-        self.answers(begin, frame)
+        untaken = failed is not None and not own_poll and len(bits) == 10 * failed
         free = begin - (self.final or 0)
+        busy = begin if free >= 12000 else self.busy
+        attempt, first = 1, begin
+        if initiator in self.last:
+            was_begin, was_bits, was_taken, was_attempt, was_first = self.last[initiator]
+            same = all(a == b for k, (a, b) in enumerate(zip(was_bits, bits)) if k % 10 != 9)
+            polls = any(len(x) > 8 and x[8] for x in (was_bits, bits))
+            if not was_taken and was_begin >= busy and same and not polls: attempt, first = was_attempt + 1, was_first
+        self.answers(first, wire.frame_bytes(bits) if ending == 'complete' or untaken else b'', begin, frame)
         known = has_header and not own_poll and initiator != 15
         if not is_bad and self.sender is not None:
             due = 7200
@@ -134,27 +142,20 @@ class Audit:
         within = lows[-1][1] - lows[-1][0] if len(lows) > 1 and lows[-1][1] is not None else 0
         within = within if 3360 <= within <= 5540 else 0
         last = len(lows) - 1
+        stops = ending == 'silent' and untaken
         for slot, kind, line in text:
-            if measured and not (slot == last and (within or (stray or drive is not None) and kind == 'total')): self.say(line)
+            if measured and not (slot == last and (within or (stray or stops or drive is not None) and kind == 'total')): self.say(line)
         if drive is not None: self.say('low drive %d%s' % (drive, '' if 3360 <= drive <= 3840 else ' not 3360..3840'))
         if within: self.say('low drive for %d' % within)
         by_width = any(slot == last and (kind == 'total' or is_bad or not self.is_bit(lows[-1])) for slot, kind, _ in text)
         unfinished = ending in ('silent', 'long') and bits and len(bits) % 10 == 0 and failed is None and not bits[-2]
         if unfinished and not within and not by_width: self.say('ends after block %d without EOM' % (len(bits) // 10))
         # attempts
-        busy = begin if free >= 12000 else self.busy
-        attempt = 1
-        if initiator in self.last:
-            was_begin, was_bits, was_taken, was_attempt = self.last[initiator]
-            same = all(a == b for k, (a, b) in enumerate(zip(was_bits, bits)) if k % 10 != 9)
-            polls = any(len(x) > 8 and x[8] for x in (was_bits, bits))
-            if not was_taken and was_begin >= busy and same and not polls: attempt = was_attempt + 1
         if failed is not None and not own_poll:
             verb = 'refused' if destination == 15 else 'not acknowledged'
             self.say('block %d %s, attempt %d%s' % (failed, verb, attempt, ' of at most 6' if attempt > 6 else ''))
         if failed is not None and failed < (len(bits) + 9) // 10:
             self.say('goes on after block %d, which was not taken, by initiator %x' % (failed, initiator))
-        untaken = failed is not None and not own_poll and len(bits) == 10 * failed
         if not measured:
             if not self.bad and self.sender is None: self.say('begins in mid frame')
         elif not (drive is not None or within or by_width or unfinished or untaken): self.how_it_ends(ending, bits, lows)
@@ -175,24 +176,23 @@ class Audit:
             return
         self.bad = []
         self.busy = busy
-        if has_header and not own_poll: self.last[initiator] = (begin, list(bits), taken, attempt)
+        if has_header and not own_poll: self.last[initiator] = (begin, list(bits), taken, attempt, first)
         self.sender = (initiator, taken) if known else '?'
         self.final = at if ending == 'short' else lows[-1][0]
-        self.whole = ending == 'complete'
+        self.whole = ending == 'complete' or stops
 
-    def answers(self, begin, frame):
+    def answers(self, first, sent, begin, frame):
         left = []
         for asker, asked, opcode, answer, since in self.waiting:
-            late = since + 1000000 < begin
             is_answer = again = False
-            if len(frame) >= 2:
-                source, target = frame[0] >> 4, frame[0] & 15
-                refusal = frame[1] == 0 and target == asker and (frame[2] if len(frame) > 2 else 0) == opcode
-                is_answer = source == asked and (frame[1] == answer and target in (asker, 15) or refusal)
-                again = (source, target, frame[1]) == (asker, asked, opcode)
+            if len(sent) >= 2 and since + 5000000 >= first:
+                source, target = sent[0] >> 4, sent[0] & 15
+                refusal = sent[1] == 0 and target == asker and (sent[2] if len(sent) > 2 else 0) == opcode
+                is_answer = source == asked and (sent[1] == answer and target in (asker, 15) or refusal)
+            if len(frame) >= 2: again = (frame[0] >> 4, frame[0] & 15, frame[1]) == (asker, asked, opcode)
             if is_answer:
-                if late: self.say('answered after %d, at most 1000000' % (begin - since))
-            elif since + 5000000 < begin or late and again: self.no_answer(asker, asked, opcode, since)
+                if since + 1000000 < first: self.say('answered after %d, at most 1000000' % (first - since))
+            elif since + 5000000 < begin or since + 1000000 < begin and again: self.no_answer(asker, asked, opcode, since)
             else: left.append((asker, asked, opcode, answer, since))
         self.waiting = left
 
@@ -205,17 +205,19 @@ class Audit:
         phys = frame[2:4] if len(frame) >= 4 else None
         if opcode == 0x84 and phys and source != 15 and self.places.get(source, phys) != phys:
             self.say('%x reported %s before' % (source, wire.pa_text(int.from_bytes(self.places[source], 'big'))))
+        faults = []
         if opcode in wire.ROWS:
             way = wire.ROWS[opcode][2]
-            if target == 15 and 'B' not in way and opcode != 0x90: self.say('to all, only for one device')
-            if target != 15 and 'D' not in way: self.say('to one device, only for all')
-            if len(frame) - 2 < wire.least(opcode): self.say('operands %d, at least %d' % (len(frame) - 2, wire.least(opcode)))
+            if target == 15 and 'B' not in way and opcode != 0x90: faults.append('to all, only for one device')
+            if target != 15 and 'D' not in way: faults.append('to one device, only for all')
+            if len(frame) - 2 < wire.least(opcode): faults.append('operands %d, at least %d' % (len(frame) - 2, wire.least(opcode)))
+            for fault in faults: self.say(fault)
         if opcode == 0x84 and phys:
             self.places[source] = phys
             if phys not in self.reported and len(self.reported) < 64: self.reported.append(phys)
         if opcode == 0x82 and phys and phys not in [p for p, _ in self.active] and len(self.active) < 64: self.active.append((phys, at))
         unknown = opcode not in wire.ROWS and opcode not in wire.SECOND and opcode not in LATER
-        if target != 15 and source != 15 and (opcode in ANSWERS or opcode == 0xff or unknown) and len(self.waiting) < 16:
+        if not faults and target != 15 and source != 15 and (opcode in ANSWERS or opcode == 0xff or unknown) and len(self.waiting) < 16:
             self.waiting.append((source, target, opcode, ANSWERS.get(opcode), at))
 
     def text(self, readings):

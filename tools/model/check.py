@@ -1,5 +1,7 @@
 """The rules that an EDID is to keep, and the other ways in which `edid` writes one: a plain model."""
 import collections
+import math
+from fractions import Fraction
 
 import blocks as tables
 import merge
@@ -224,8 +226,146 @@ def is_standard_outside(b, four, first, second):
                for fields, lines, _ in limits(b, four))
 
 
-def has_format_outside(b, four, codes):
-    paces = [PACE_OF[c] for c in codes if c in PACE_OF] + [pace for byte, bit, *pace in ESTABLISHED if b[byte] >> bit & 1]
+# of each code of VESA's monitor timings (DMT 1.13) that has no fields the clock in kHz, the pixels shown, those of a line, and the lines
+DMT = {
+    0x01: (31500, 640, 832, 445), 0x02: (31500, 640, 832, 445), 0x03: (35500, 720, 936, 446), 0x04: (25175, 640, 800, 525),
+    0x05: (31500, 640, 832, 520), 0x06: (31500, 640, 840, 500), 0x07: (36000, 640, 832, 509), 0x08: (36000, 800, 1024, 625),
+    0x09: (40000, 800, 1056, 628), 0x0a: (50000, 800, 1040, 666), 0x0b: (49500, 800, 1056, 625), 0x0c: (56250, 800, 1048, 631),
+    0x0d: (73250, 800, 960, 636), 0x0e: (33750, 848, 1088, 517), 0x10: (65000, 1024, 1344, 806), 0x11: (75000, 1024, 1328, 806),
+    0x12: (78750, 1024, 1312, 800), 0x13: (94500, 1024, 1376, 808), 0x14: (115500, 1024, 1184, 813), 0x15: (108000, 1152, 1600, 900),
+    0x55: (74250, 1280, 1650, 750), 0x16: (68250, 1280, 1440, 790), 0x17: (79500, 1280, 1664, 798), 0x18: (102250, 1280, 1696, 805),
+    0x19: (117500, 1280, 1712, 809), 0x1a: (140250, 1280, 1440, 813), 0x1b: (71000, 1280, 1440, 823), 0x1c: (83500, 1280, 1680, 831),
+    0x1d: (106500, 1280, 1696, 838), 0x1e: (122500, 1280, 1712, 843), 0x1f: (146250, 1280, 1440, 847), 0x20: (108000, 1280, 1800, 1000),
+    0x21: (148500, 1280, 1728, 1011), 0x22: (175500, 1280, 1440, 1017), 0x23: (108000, 1280, 1688, 1066), 0x24: (135000, 1280, 1688, 1066),
+    0x25: (157500, 1280, 1728, 1072), 0x26: (187250, 1280, 1440, 1084), 0x27: (85500, 1360, 1792, 795), 0x28: (148250, 1360, 1520, 813),
+    0x51: (85500, 1366, 1792, 798), 0x56: (72000, 1366, 1500, 800), 0x29: (101000, 1400, 1560, 1080), 0x2a: (121750, 1400, 1864, 1089),
+    0x2b: (156000, 1400, 1896, 1099), 0x2c: (179500, 1400, 1912, 1105), 0x2d: (208000, 1400, 1560, 1112), 0x2e: (88750, 1440, 1600, 926),
+    0x2f: (106500, 1440, 1904, 934), 0x30: (136750, 1440, 1936, 942), 0x31: (157000, 1440, 1952, 948), 0x32: (182750, 1440, 1600, 953),
+    0x53: (108000, 1600, 1800, 1000), 0x33: (162000, 1600, 2160, 1250), 0x34: (175500, 1600, 2160, 1250), 0x35: (189000, 1600, 2160, 1250),
+    0x36: (202500, 1600, 2160, 1250), 0x37: (229500, 1600, 2160, 1250), 0x38: (268250, 1600, 1760, 1271), 0x39: (119000, 1680, 1840, 1080),
+    0x3a: (146250, 1680, 2240, 1089), 0x3b: (187000, 1680, 2272, 1099), 0x3c: (214750, 1680, 2288, 1105), 0x3d: (245500, 1680, 1840, 1112),
+    0x3e: (204750, 1792, 2448, 1394), 0x3f: (261000, 1792, 2456, 1417), 0x40: (333250, 1792, 1952, 1423), 0x41: (218250, 1856, 2528, 1439),
+    0x42: (288000, 1856, 2560, 1500), 0x43: (356500, 1856, 2016, 1473), 0x52: (148500, 1920, 2200, 1125), 0x44: (154000, 1920, 2080, 1235),
+    0x45: (193250, 1920, 2592, 1245), 0x46: (245250, 1920, 2608, 1255), 0x47: (281250, 1920, 2624, 1262), 0x48: (317000, 1920, 2080, 1271),
+    0x49: (234000, 1920, 2600, 1500), 0x4a: (297000, 1920, 2640, 1500), 0x4b: (380500, 1920, 2080, 1523), 0x54: (162000, 2048, 2250, 1200),
+    0x4c: (268500, 2560, 2720, 1646), 0x4d: (348500, 2560, 3504, 1658), 0x4e: (443250, 2560, 3536, 1672), 0x4f: (505250, 2560, 3536, 1682),
+    0x50: (552750, 2560, 2720, 1694), 0x57: (556744, 4096, 4176, 2222), 0x58: (556188, 4096, 4176, 2222),
+}
+ASPECTS = ((1, 1), (5, 4), (4, 3), (15, 9), (16, 9), (16, 10), (64, 27), (256, 135))
+SYNC_LINES = {(4, 3): 4, (16, 9): 5, (16, 10): 6, (5, 4): 7, (15, 9): 7}
+# the bytes of a timing by its tag: types I to III, V to VII, IX and X
+TYPED_LENGTHS = {0x03: 20, 0x04: 11, 0x05: 3, 0x11: 7, 0x13: 14, 0x22: 20, 0x24: 6, 0x2a: 6, 0x32: 6}
+
+
+def cvt(version, width, height, rate):
+    """clock, pixels shown, pixels of a line and lines of a mode by CVT 1.2: with the blanking of a tube, 0, or with reduced blanking of version 1
+    or 2; None of another, and of 0 and 1 where a detailed timing has no room"""
+    sync = next((lines for (a, b), lines in SYNC_LINES.items() if width * b == height * a), 10)
+    if version == 2:
+        lines = height + max(460 * rate * height // (10**6 - 460 * rate) + 1, 15)
+        return rate * lines * (width + 80) // 1000, width, width + 80, lines
+    if version > 1 or width % 8 or not 0 < width < 4096 or not 0 < height < 4096 or rate > 500:
+        return None
+    if version == 1:
+        blank = max(460 * rate * height // (10**6 - 460 * rate) + 1, 10 + sync)
+        clock, across = 250 * (rate * (height + blank) * (width + 160) // 250000), 160
+    else:
+        period = Fraction(10**6 - 550 * rate, rate * (height + 3))
+        if period <= 0:
+            return None
+        blank = 3 + max(math.floor(550 / period) + 1, sync + 7)
+        share = max(30 - 3 * period / 10, 20)
+        across = math.floor(width * share / (100 - share) / 16) * 16
+        clock = 250 * math.floor(4 * (width + across) / period)
+        pulse = (width + across) // 100 * 8
+        if not 0 < pulse < 1024 or not 0 < across // 2 - pulse < 1024:
+            return None
+    return (clock, width, width + across, height + blank) if 0 < clock < 655360 and across < 4096 and blank < 4096 else None
+
+
+def typed_one(tag, q):
+    """clock, pixels shown, pixels of a line and lines of the timing with these bytes, and whether it is of two fields; None where it is not known"""
+    two = lambda i: int.from_bytes(q[i:i + 2], 'little') + 1
+    if tag in (0x03, 0x22):
+        return (int.from_bytes(q[:3], 'little') + 1) * (10 if tag == 3 else 1), two(4), two(4) + two(6), two(12) + two(14), q[3] >> 4 & 1
+    if tag == 0x04:
+        across, down = two(4) - 1, two(7) - 1
+        width = 8 * (across % 512 + 1)
+        return (int.from_bytes(q[:3], 'little') + 1) * 10, width, width + 8 * (across // 512 + 1), down % 4096 + q[9] + 2, q[3] >> 4 & 1
+    if tag == 0x13:
+        width, height = (two(3) - 1) % 16384 + 1, (two(5) - 1) % 16384 + 1
+        clock = int.from_bytes(q[:3], 'little') % 2**22 + 1
+        return clock, width, width + q[7] + q[9] % 16 * 256 + 1, height + q[11] + 1, q[13] >> 7
+    if tag == 0x05:
+        width = 8 * (q[1] + 1)
+        aspect = ASPECTS[q[0] & 15] if q[0] & 15 < 8 else None
+        known = aspect and not q[2] & 128 and q[0] >> 4 & 7 < 2
+        mode = known and (q[0] >> 4 & 7, width, width * aspect[1] // aspect[0], (q[2] & 127) + 1)
+    elif tag == 0x11:
+        mode = q[0] % 4 == 0 and (2, two(2), two(4), q[6] + 1)
+    else:
+        mode = (q[0] & 7, two(1), two(3), q[5] + (q[6] & 3 if len(q) > 6 else 0) * 256 + 1)
+    made = cvt(*mode) if mode else None
+    return made and made + (0,)
+
+
+def typed_list(tag, revision, body):
+    """the timings that a data block lists, and its video codes"""
+    if tag in (0x06, 0x23):
+        known = not (tag == 0x23 and revision & 8)
+        made = [DMT[c] + (0,) for c in body if c in DMT] if known and revision < 64 else []
+        return made, (list(body) if known and 64 <= revision < 128 else [])
+    made = []
+    while tag in TYPED_LENGTHS:
+        size = TYPED_LENGTHS[tag] + (revision >> 4 & 7 if tag in (0x22, 0x2a, 0x32) else 0)
+        size += 3 if tag == 0x13 and len(body) > 2 and body[2] & 64 else 0
+        if len(body) < size:
+            break
+        made.append(typed_one(tag, body[:size]))
+        body = body[size:]
+    return [it for it in made if it], []
+
+
+def section_blocks(raw):
+    """tag, byte after it and payload of each data block of a DisplayID extension"""
+    data = bytes(raw[5:5 + min(raw[2], 121)]) if raw[0] == 0x70 else b''
+    while len(data) >= 3 and len(data) >= 3 + data[2]:
+        yield data[0], data[1], data[3:3 + data[2]]
+        data = data[3 + data[2]:]
+
+
+def tagged_lists(tag, data):
+    """what a CTA block with an extended tag lists: type VII, monitor timings of type VIII, type X"""
+    listed = len(data) >= 1 and (tag in (34, 42) or tag == 35 and data[0] < 64)
+    return typed_list(tag, data[0], bytes(data[1:])) if listed else ([], [])
+
+
+def typed_formats(raws, tagged):
+    """the timings and video codes in the form of DisplayID: of its extensions, and of CTA blocks with extended tags"""
+    lists = [tagged_lists(tag, data) for tag, data in tagged] + [typed_list(*it) for raw in raws for it in section_blocks(raw)]
+    return [it for timings, _ in lists for it in timings], [code for _, codes in lists for code in codes]
+
+
+def typed_paces(typed):
+    """clock, pixels of a line and half lines of a picture of each that is progressive"""
+    timings, codes = typed
+    for clock, _, pixels, lines, fields in timings:
+        if not fields and clock < 2**32 and pixels < 65536 and lines < 32768:
+            yield clock, pixels, 2 * lines
+    yield from (PACE_OF[code] for code in codes if code in PACE_OF)
+
+
+def typed_needs(typed):
+    """of each clock, pixels shown and pixels of a line"""
+    timings, codes = typed
+    for clock, width, pixels, _, _ in timings:
+        if clock < 2**32 and width < 65536 and pixels < 65536:
+            yield clock, width, pixels, False
+    yield from ((PACE_OF[code][0], WIDTH_OF.get(code, 0), PACE_OF[code][1], False) for code in codes if code in PACE_OF)
+
+
+def has_format_outside(b, four, codes, typed):
+    paces = list(typed) + [PACE_OF[c] for c in codes if c in PACE_OF] + [pace for byte, bit, *pace in ESTABLISHED if b[byte] >> bit & 1]
     pairs = [(b[38 + 2 * i], b[39 + 2 * i]) for i in range(8)]
     return any(is_pace_outside(b, four, *pace) for pace in paces) or any(is_standard_outside(b, four, *pair) for pair in pairs)
 
@@ -501,9 +641,10 @@ def edid_findings(e, is_port):
         yield 'warn', 'ycc-quantization'
     if any(latencies_late(data) for data in hdmi):
         yield 'warn', 'latency-order'
-    if has_format_outside(b, four, codes):
+    typed = typed_formats(kept, tagged)
+    if has_format_outside(b, four, codes, typed_paces(typed)):
         yield ('warn' if four else 'fail'), 'out-of-range'
-    if is_of_hdmi(b) and any(is_beyond(blocks, *need) for need in code_needs(blocks)):
+    if is_of_hdmi(b) and any(is_beyond(blocks, *need) for need in [*code_needs(blocks), *typed_needs(typed)]):
         yield 'fail', 'link-clock'
     if any(d[3] in (0xFC, 0xFE, 0xFF) and not is_text(d) for d in shown):
         yield 'fail', 'text-form'
@@ -519,6 +660,8 @@ def edid_findings(e, is_port):
         yield 'warn', 'reserved'
     if any(tables.judge(tag, data)[1] and not names_length(tag, data) for tag, data in blocks):
         yield 'warn', 'length'
+    if any(raw[0] == 0x70 and sum(raw[1:raw[2] + 6]) % 256 for raw in kept):
+        yield 'fail', 'displayid-checksum'
 
 
 def blocks_of(e):
@@ -582,12 +725,45 @@ def override(e):
     return e[126]
 
 
+def mended(e, overridden):
+    """the bytes with right sums and a right count, and what is said of each that is another"""
+    b, count = bytearray(e), len(e) // 128 - 1
+    if overridden and len(e) >= 256 and e[128] == 2 and e[129] >= 3 and e[130] >= 7 and e[132:134] == b'\xe2\x78' and e[134]:
+        b[126], b[134] = 1, count
+    else:
+        b[126] = count
+    for block in range(0, len(b), 128):
+        b[block + 127] = -sum(b[block:block + 127]) % 256
+    said = {126: 'base count', 127: 'base checksum', 134: 'ext 1 override', 255: 'ext 1 checksum', 383: 'ext 2 checksum', 511: 'ext 3 checksum'}
+    return bytes(b), ['mended ' + said[place] for place in sorted(said) if place < len(b) and b[place] != e[place]]
+
+
+def room(e):
+    """what is used and left of each block, a line each"""
+    free = [sum(e[p:p + 18] == b'\0\0\0\x10' + bytes(14) for p in range(54, 126, 18)), sum(e[p:p + 2] == b'\1\1' for p in range(38, 54, 2))]
+    left = 18 * free[0] + 2 * free[1]
+    shown = 17 - bin(e[35] << 9 | e[36] << 1 | e[37] >> 7).count('1')
+    yield 'block 0 base used %d left %d free-descriptors %d free-standards %d free-established %d' % (128 - left, left, *free, shown)
+    for number in range(1, len(e) // 128):
+        ext = read_ext(e[128 * number:128 * number + 128])
+        if ext is None or ext['d'] == 0:
+            yield 'block %d %s used 128 left 0' % (number, 'ext' if ext is None else 'cta-none')
+            continue
+        parts = [ext['d'] - 4, 18 * len(ext['timings']), len(ext['tail'].rstrip(b'\0'))]
+        left = 123 - sum(parts)
+        yield 'block %d cta blocks %d timings %d tail %d used %d left %d free-timings %d' % (number, *parts, 128 - left, left, left // 18)
+
+
 def value_of(args, flag):
     return args[args.index(flag) + 1] if flag in args else None
 
 
 def edid_way(args, data):
-    """(status, output, lines of standard error) of `edid` with --merge, --rows R and what else given_way has"""
+    """(status, output, lines of standard error) of `edid` with --merge, --rows R, --mend and what else given_way has"""
+    if '--mend' in args and len(data) in (128, 256, 384, 512):
+        made, notes = mended(data, '--eeodb' in args)
+        status, output, fault = given_way(args, made)
+        return status, output, '\n'.join(notes + [fault] * bool(fault))
     if '--merge' not in args:
         return given_way(args, data)
     data, cause, notes = merge.merge(*merge.halves(data), merge.rows_of(value_of(args, '--rows')))
@@ -598,7 +774,7 @@ def edid_way(args, data):
 
 
 def given_way(args, data):
-    """(status, output, fault) of `edid` with --eeodb, --check, --address A, --port N, --below amp, --speakers own, --only-address or --raw"""
+    """(status, output, fault) of `edid` with --eeodb, --check, --address A, --port N, --below amp, --speakers own, --only-address, --room or --raw"""
     port, address = value_of(args, '--port'), value_of(args, '--address')
     kept = None
     if '--eeodb' in args and len(data) in (128, 256, 384, 512):
@@ -624,6 +800,8 @@ def given_way(args, data):
         lines = findings(data if kept is None else recounted(data, kept), bool(port or address))
         fails = has_failure(lines)
         return 5 if fails else 0, ''.join(l + '\n' for l in lines).encode(), 'edid: a rule fails' if fails else ''
+    if '--room' in args:
+        return 0, ''.join(line + '\n' for line in room(data)).encode(), ''
     if '--raw' in args:
         return 0, data if kept is None else recounted(data, kept), ''
     return 0, edid_text(data), ''

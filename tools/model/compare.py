@@ -1,6 +1,6 @@
 #!/usr/bin/env python3
 """python3 compare.py PROGRAM KIND COUNT START: random inputs of KIND through PROGRAM and the model; prints differences.
-KIND: run feat wire edges mon audit step asm edid edtext merge check ways met expect sweep capture json odd."""
+KIND: run feat wire edges mon audit step asm edid edtext merge check ways room met expect sweep capture json odd."""
 import os, random, re, subprocess, sys, time
 import wire, captures, edid, expectations, merge, net, patterns, sweep
 from model import model
@@ -16,7 +16,7 @@ def prog(program, args, data):
         p = subprocess.run([program] + args, input=data, capture_output=True, timeout=120)
     except subprocess.TimeoutExpired:
         return 'timeout', b'', ''
-    said = p.stderr.decode('latin1').split('\n')[:-1] if '--merge' in args else p.stderr.decode('latin1').split('\n')[:1]
+    said = p.stderr.decode('latin1').split('\n')[:-1] if '--merge' in args or '--mend' in args else p.stderr.decode('latin1').split('\n')[:1]
     f = '\n'.join(e[9:] if e.startswith('hdminet: ') else ('?' + e if e else '') for e in said)
     if args[0] == 'mon' and p.returncode == 0: f = ''      # what may have to be asked for otherwise is not in the model
     out = p.stdout
@@ -663,6 +663,7 @@ def gen_margin(r):
     """the same, by wider windows or not, with its levels turned or not"""
     args, text = gen_mon(r)
     if r.random() < .2: args = args + ['--invert']
+    if r.random() < .2: args = args + ['--scale', r.choice(['0.5', '0.0001', '1', '1.0417', '2', '24', '0.9999', '1000', '%d.%04d' % (r.randrange(3), r.randrange(1, 10000))])]
     return args + r.choice([[], ['--margin', str(r.choice([0, 1, 20, 50, 300, r.randrange(301)]))]]), text
 
 
@@ -833,6 +834,22 @@ def gen_ways(r):
     amp = ['--port', str(r.randint(1, 15)), '--below', 'amp']
     way = r.choice([['--port', str(r.randint(1, 15))], amp, amp + ['--speakers', 'own'], ['--address', pa_word(r)], ['--only-address']])
     return ['edid'] + way + r.choice([[], ['--raw']] if way != ['--only-address'] else [[]]), e
+
+
+def gen_room(r):
+    """an EDID whose room is asked for, or one that is set right: bytes of it are others, and perhaps its sums and its count"""
+    b = bytearray(EXAMPLE if r.random() < .5 else gen_edidcmd(r)[1])
+    for _ in range(r.choice([0, 1, 1, 2, 4])):
+        if b:
+            b[r.randrange(len(b))] = r.choice([0, 1, 255, r.randrange(256)])
+    if r.random() < .2 and len(b) > 256:
+        b[128:135] = bytes([2, 3, r.choice([7, 9, 30]), 0, 0xe2, 0x78, r.randrange(4)])
+    if r.random() < .3:
+        b = b[:r.choice([128, 256, 384])]
+    way = r.choice([['--room'], ['--room', '--mend'], ['--room', '--mend', '--eeodb'], ['--mend'], ['--mend', '--raw'], ['--mend', '--eeodb', '--raw']])
+    if '--mend' not in way and len(b) % 128 == 0:
+        b = b''.join(edid.mend(bytes(b[i:i + 128])) for i in range(0, len(b), 128))
+    return ['edid'] + way, bytes(b)
 
 
 def gen_sink(r):
@@ -1166,7 +1183,7 @@ def small_run(r):
 
 
 ODD = [gen_run, gen_pulls_run, gen_pins_run, small_run, small_run, gen_asm, gen_edidcmd, gen_edtext, gen_mon, gen_step, gen_expect]
-GEN = dict(pulls=gen_pulls_run, pins=gen_pins_run, ops=gen_ops, met=gen_met, amp=gen_amp, run=gen_run, feat=gen_feat, wire=gen_wire, edges=gen_edges, mon=gen_margin, fold=gen_fold, audit=gen_audit, step=gen_step, asm=gen_asm, edid=gen_edidcmd, edtext=gen_edtext, merge=gen_merge, check=gen_check, ways=gen_ways, expect=gen_expect, sweep=gen_sweep, capture=gen_capture, json=gen_json, odd=gen_odd)
+GEN = dict(pulls=gen_pulls_run, pins=gen_pins_run, ops=gen_ops, met=gen_met, amp=gen_amp, run=gen_run, feat=gen_feat, wire=gen_wire, edges=gen_edges, mon=gen_margin, fold=gen_fold, audit=gen_audit, step=gen_step, asm=gen_asm, edid=gen_edidcmd, edtext=gen_edtext, merge=gen_merge, check=gen_check, ways=gen_ways, room=gen_room, expect=gen_expect, sweep=gen_sweep, capture=gen_capture, json=gen_json, odd=gen_odd)
 
 
 def main():

@@ -57,6 +57,7 @@ RULES = {
     'week-reserved': 'Invalid week',
     'srgb-gamma': 'sRGB is signaled, but the gamma',
     'input-reserved': 'Color Bit Depth set to reserved|Digital Video Interface Standard set to reserved',
+    'displayid-checksum': 'Invalid checksum',
     'forum-vrr': "VRRmin > 48|VRRmin == 0, but VRRmax|VRRmax < 100",
 }
 TIMING_RULES = {

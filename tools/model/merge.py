@@ -123,6 +123,17 @@ def is_forum(tag, data):
     return tag == 3 and bytes(data[:3]) == b'\xd8\x5d\xc4' or tag == 7 and bytes(data[:1]) == b'\x79'
 
 
+def fitted_section(raw, is_lost):
+    """a DisplayID extension without the data blocks that are lost; any other block as it is"""
+    import check
+    parts = [(bytes([tag, revision, len(body)]) + body, is_lost(check.typed_list(tag, revision, body))) for tag, revision, body in check.section_blocks(raw)]
+    if not any(lost for _, lost in parts):
+        return raw
+    data = b''.join(part for part, lost in parts if not lost)
+    section = bytes([raw[1], len(data), raw[3], raw[4]]) + data
+    return mend((b'\x70' + section + bytes([-sum(section) % 256])).ljust(128, b'\0'))
+
+
 def fitted(e):
     """an EDID without the formats that its link does not carry"""
     import check
@@ -131,6 +142,7 @@ def fitted(e):
     every = check.blocks_of(e)
     is_left = lambda code, halved: code not in check.PACE_OF or not check.is_beyond(
         every, check.PACE_OF[code][0], check.WIDTH_OF.get(code, 0), check.PACE_OF[code][1], halved)
+    is_lost = lambda typed: any(check.is_beyond(every, *need) for need in check.typed_needs(typed))
     plain = lambda c: c - 128 if 129 <= c <= 192 else c
     svds = [c for tag, data in every if tag == 2 for c in data]
     stays = [is_left(plain(c), False) for c in svds]
@@ -138,6 +150,7 @@ def fitted(e):
     for _, tag, data in x['blocks']:
         data = bytes(data)
         full = len(data)
+        if tag == 7 and data and is_lost(check.tagged_lists(data[0], data[1:])): continue
         if tag == 2:
             data = bytes(c for c in data if is_left(plain(c), False))
             if not data and full: continue
@@ -174,7 +187,8 @@ def fitted(e):
     flags = x['flags'] & 0xf0 if lost else x['flags']
     body = blocks + b''.join(timings)
     ext = mend(bytes([2, 3, len(blocks) + 4, flags]) + body.ljust(123, b'\0') + b'\0')
-    return mend(e[:54] + b''.join(left) + e[126:128]) + e[128:place] + ext + e[place + 128:]
+    others = [ext if at == place else fitted_section(e[at:at + 128], is_lost) for at in range(128, len(e), 128)]
+    return mend(e[:54] + b''.join(left) + e[126:128]) + b''.join(others)
 
 
 def rows_of(text):

@@ -26,6 +26,12 @@ def model(args, data):
         return status, objects.objects(out, told_of), fault
     if sub == 'mon' and '--invert' in args:
         return model([word for word in args if word != '--invert'], wire.turned(data)) if wire.mon(data)[0] == 0 else wire.mon(data)
+    if sub == 'mon' and '--scale' in args:
+        status, out, fault = wire.mon(data)
+        if status: return status, out, fault
+        place = args.index('--scale')
+        line = wire.scaled(data, args[place + 1])
+        return model(args[:place] + args[place + 2:], line) if line else (1, b'', 'scale: late')
     if sub == 'mon' and '--fold' in args:
         status, out, fault = model([word for word in args if word != '--fold'], data)
         return status, wire.folded(out), fault

@@ -1,4 +1,5 @@
 """Frames, opcode table, assembler, wire and readings: a plain model."""
+import fractions
 import itertools
 import re
 
@@ -432,6 +433,19 @@ def turned(data):
     lines = [line.split(b' ') for line in lines_of(data) if not skipped(line)]
     times = {int(t) for t, level in lines if level != b'end'} ^ {0}
     return b''.join(b'%d %d\n' % (t, k % 2) for k, t in enumerate(sorted(times))) + b'%d end\n' % int(lines[-1][0])
+
+
+def scaled(data, factor):
+    """the edge file of a line whose times are multiplied and cut; none where its end is past the limit. A stretch that lasts less than a
+    microsecond then goes, with the edge that begins it and the one that ends it."""
+    times = fractions.Fraction(factor)
+    lines = [line.split(b' ') for line in lines_of(data) if not skipped(line)]
+    kept = []
+    for t, level in lines[:-1]:
+        if kept and (int(t) - int(kept[-1][0])) * times < 1: kept.pop()
+        else: kept.append((t, level))
+    if int(lines[-1][0]) * times // 1 > 2_000_000_000_000: return None
+    return b''.join(b'%d %s\n' % (int(t) * times // 1, level) for t, level in kept + lines[-1:])
 
 
 def mon(data, margin=0):

@@ -19,10 +19,10 @@ use Rattle.audit_judged.specs.declared.endings.Cause.TheVariants as causes
 use Rattle.audit_judged.specs.declared.endings.EndingRemark.TheVariants as remarks
 use Rattle.audit_remarks.specs.declared.attempts.Attempts.{Attempts}
 use Rattle.audit_remarks.specs.Attempts.{attempt_of, failure_at, failure_of, tries_again}
-use Rattle.audit_remarks.specs.Endings.{ends_low, ends_untaken, goes_on_after, is_bit, is_last, is_measured, is_stray, last_says, may_have_lost, measured_of, stops_of, unmeasured_of, unsaid_of, width_says}
-use Rattle.audit_remarks.specs.Frames.{delivered_frame}
+use Rattle.audit_remarks.specs.Endings.{ends_low, goes_on_after, is_bit, is_measured, is_stray, last_says, may_have_lost, measured_of, stops_of, unmeasured_of, unsaid_of, width_says}
+use Rattle.audit_remarks.specs.Frames.{delivered_frame, sent_frame}
 use Rattle.audit_remarks.specs.Free.{free_before, is_bad_start, too_soon}
-use Rattle.audit_remarks.specs.Header.{failed_block, seeks_address, unfinished}
+use Rattle.audit_remarks.specs.Header.{ends_untaken, failed_block, is_last, seeks_address, stops_untaken, unfinished}
 use Rattle.audit_remarks.specs.Series.{series_over}
 use Rattle.audit_notes.specs.Lines.{AuditLine}
 use Rattle.audit_notes.specs.declared.note.AuditNote.{AuditNote}
@@ -30,7 +30,7 @@ use Rattle.audit_notes.specs.declared.note.AuditNote.TheVariants as notes
 use Rattle.audit_core.specs.declared.lines.LastSlot.{LastSlot}
 use Rattle.audit_core.specs.declared.lines.LastSlot.TheVariants.{Own, Followed}
 use Rattle.audit_core.specs.Lines.{answers_lines, ending_note, goes_on_note, last_by, last_of, misfit_lines, noted, slot_by, slot_low, slot_total, timing_lines}
-use Rattle.audit_core.specs.Audit.{Tape, drive_of, frame_lines, lows_of, read_lines, times_lines, unfinished_of}
+use Rattle.audit_core.specs.Audit.{Tape, drive_of, first_begin, frame_lines, lows_of, read_lines, times_lines, unfinished_of}
 use Rattle.audit_core.specs.Endings.{EndingsAreSaid, last_slot, says_ending}
 
 -- ---- one of some lines says it
@@ -240,11 +240,11 @@ note_says_it : (last : ℕ) (t : Tape) (x : Listed) (misfits : List AuditLine) (
 note_says_it last t x misfits drive within block last_note h = then_says last (with_block misfits drive within block ++ failed_in t x ++ goes_in x) (noted last_note) h
 
 -- its misfits, behind what was before it
-abbrev misfits_by : Listed → List Low → List AuditLine → Bool → Option ℕ → Option ℕ → List AuditLine
-misfits_by x lows front stray drive within = front ++ misfit_lines (if stray then Followed else last_by drive within) x.reported.ending x.reported.bits 0 lows
+abbrev misfits_by : Listed → List Low → List AuditLine → Bool → Bool → Option ℕ → List AuditLine
+misfits_by x lows front stray followed within = front ++ misfit_lines (if stray then Followed else last_by followed within) x.reported.ending x.reported.bits 0 lows
 
 width_lines : (last : ℕ) (x : Listed) (lows : List Low) (front : List AuditLine) → last ≡ length lows - 1 → last_says x.reported.ending x.reported.bits 0 lows ≡ true → (stray : Bool) → is_stray x lows ≡ stray
-    → Says last (misfits_by x lows front stray None None)
+    → Says last (misfits_by x lows front stray false None)
 width_lines last x lows front at e true is =
     then_says last front (misfit_lines Followed x.reported.ending x.reported.bits 0 lows) (subst (λ (n : ℕ). Says n (misfit_lines Followed x.reported.ending x.reported.bits 0 lows)) (sym at) (stray_says x x.reported.bits lows is))
 width_lines last x lows front at e false is =
@@ -263,23 +263,36 @@ rest_says last t x lows misfits h false false f g =
 abbrev block_by : Listed → Option ℕ → Bool → Option ℕ
 block_by x within says = if is_some within || says then None else unfinished x.reported.ending x.reported.bits
 
+-- what stops with a block that was not taken ends with it
+stop_is_untaken : (ending : Ending) (bits : List Bool) → stops_untaken ending bits ≡ true → ends_untaken bits ≡ true
+stop_is_untaken endings.Complete bits h = absurd (false≢true h)
+stop_is_untaken endings.Short bits h = absurd (false≢true h)
+stop_is_untaken endings.Silent bits h = h
+stop_is_untaken endings.BadStart bits h = absurd (false≢true h)
+stop_is_untaken endings.Long bits h = absurd (false≢true h)
+stop_is_untaken endings.Open bits h = absurd (false≢true h)
+
 -- whatever was found
 all_say : (last : ℕ) (t : Tape) (x : Listed) (lows : List Low) (front : List AuditLine) → last ≡ length lows - 1 → is_complete x.reported.ending ≡ false → (stray : Bool) → is_stray x lows ≡ stray
-    → (drive within : Option ℕ) (says : Bool) → last_says x.reported.ending x.reported.bits 0 lows ≡ says
-    → Says last (found t x (misfits_by x lows front stray drive within) drive within (block_by x within says)
+    → (quiet : Bool) → stops_untaken x.reported.ending x.reported.bits ≡ quiet → (drive within : Option ℕ) (says : Bool) → last_says x.reported.ending x.reported.bits 0 lows ≡ says
+    → Says last (found t x (misfits_by x lows front stray (is_some drive || quiet) within) drive within (block_by x within says)
     (ending_note x.reported.bits (if is_some drive || (is_some within || (says || (is_some (unfinished x.reported.ending x.reported.bits) || ends_untaken x.reported.bits))) then Nothing else unsaid_of x.reported.ending lows x.reported.bits)))
-all_say last t x lows front at h stray is (Some width) within says e = drive_says last t x (misfits_by x lows front stray (Some width) within) width within (block_by x within says) None
-all_say last t x lows front at h stray is None (Some width) says e = within_says last t x (misfits_by x lows front stray None (Some width)) None width (block_by x (Some width) says) None
-all_say last t x lows front at h stray is None None true e = misfits_say last t x (misfits_by x lows front stray None None) None None None None (width_lines last x lows front at e stray is)
-all_say last t x lows front at h stray is None None false e =
-    rest_says last t x lows (misfits_by x lows front stray None None) h (is_some (unfinished x.reported.ending x.reported.bits)) (ends_untaken x.reported.bits) refl refl
+all_say last t x lows front at h stray is quiet q (Some width) within says e = drive_says last t x (misfits_by x lows front stray true within) width within (block_by x within says) None
+all_say last t x lows front at h stray is quiet q None (Some width) says e = within_says last t x (misfits_by x lows front stray quiet (Some width)) None width (block_by x (Some width) says) None
+all_say last t x lows front at h stray is true q None None says e =
+    failed_says last t x (misfits_by x lows front stray true None) None None (block_by x None says)
+    (ending_note x.reported.bits (if says || (is_some (unfinished x.reported.ending x.reported.bits) || ends_untaken x.reported.bits) then Nothing else unsaid_of x.reported.ending lows x.reported.bits))
+    (untaken_says last t.attempts x.begin (free_before t.previous x.begin) x.reported.bits (stop_is_untaken x.reported.ending x.reported.bits q))
+all_say last t x lows front at h stray is false q None None true e = misfits_say last t x (misfits_by x lows front stray false None) None None None None (width_lines last x lows front at e stray is)
+all_say last t x lows front at h stray is false q None None false e =
+    rest_says last t x lows (misfits_by x lows front stray false None) h (is_some (unfinished x.reported.ending x.reported.bits)) (ends_untaken x.reported.bits) refl refl
 
 -- ---- the lines of a reading
 
 -- those of what was before it come first
 abbrev before_it : Tape → Listed → List AuditLine
 before_it t x =
-    noted (option_map notes.BadStarts (series_over t.series x.reported.ending)) ++ answers_lines x.begin (delivered_frame x) t.waiting
+    noted (option_map notes.BadStarts (series_over t.series x.reported.ending)) ++ answers_lines (first_begin t x) (sent_frame x) x.begin (delivered_frame x) t.waiting
     ++ noted (option_map notes.Free (too_soon t.previous x (tries_again t.attempts x.reported.bits)))
 
 times_say : (last : ℕ) (t : Tape) (x : Listed) (lows : List Low) (drive : Option ℕ) → last ≡ length lows - 1 → is_complete x.reported.ending ≡ false
@@ -287,7 +300,7 @@ times_say : (last : ℕ) (t : Tape) (x : Listed) (lows : List Low) (drive : Opti
 times_say last t x lows drive at h m =
     subst (λ (b : Bool). Says last (found t x (before_it t x ++ (if b then misfit_lines (last_of drive x lows) x.reported.ending x.reported.bits 0 lows else [])) drive (drive_within lows) (unfinished_of x lows)
     (ending_note x.reported.bits (if b then measured_of drive x lows else unmeasured_of t.previous t.series))))
-    (sym m) (all_say last t x lows (before_it t x) at h (is_stray x lows) refl drive (drive_within lows) (last_says x.reported.ending x.reported.bits 0 lows) refl)
+    (sym m) (all_say last t x lows (before_it t x) at h (is_stray x lows) refl (stops_untaken x.reported.ending x.reported.bits) refl drive (drive_within lows) (last_says x.reported.ending x.reported.bits 0 lows) refl)
 
 pub endings_are_said : EndingsAreSaid
 endings_are_said timing t x h m =

@@ -25,7 +25,7 @@ use Rattle.audit_remarks.specs.declared.requests.Request.{Request}
 use Rattle.audit_remarks.specs.declared.sources.Mention.{Mention}
 use Rattle.audit_remarks.specs.Attempts.{failure_of, tries_again}
 use Rattle.audit_remarks.specs.Endings.{ending_of, goes_on_after, is_measured}
-use Rattle.audit_remarks.specs.Frames.{delivered_frame, sender}
+use Rattle.audit_remarks.specs.Frames.{delivered_frame, sender, sent_frame}
 use Rattle.audit_remarks.specs.Free.{free_before, too_soon}
 use Rattle.audit_remarks.specs.Header.{head_read}
 use Rattle.audit_remarks.specs.Messages.{missed_receivers, missing_operands}
@@ -52,7 +52,7 @@ use Rattle.audit_notes.specs.declared.note.SpreadKind.{SpreadKind}
 use Rattle.audit_notes.specs.declared.note.SpreadKind.TheVariants as spreads
 use Rattle.audit_core.specs.declared.lines.LastSlot.{LastSlot}
 use Rattle.audit_core.specs.Lines.{answer_lines, answers_lines, claims_lines, count_lines, counts_lines, ending_note, goes_on_note, if_answered, if_given_up, if_late, last_of, late_lines, misfit_lines, named_lines, noted, slot_by, slot_low, slot_total, spread_lines, timing_lines, unless_reported, widths_lines}
-use Rattle.audit_core.specs.Audit.{Tape, after, after_all, audit_text, come_to, drive_of, first_tape, frame_lines, heard_all, lows_of, named_in, named_of, read_lines, reading_misfits, remark_lines, remarks_text, reported_all, summary_lines, summary_text, times_lines, line_and_remarks, unfinished_of}
+use Rattle.audit_core.specs.Audit.{Tape, after, after_all, audit_text, come_to, drive_of, first_begin, first_tape, frame_lines, heard_all, lows_of, named_in, named_of, read_lines, reading_misfits, remark_lines, remarks_text, reported_all, summary_lines, summary_text, times_lines, line_and_remarks, unfinished_of}
 use Rattle.audit_core.proofs.EndingLines.{cause_remark, ending_remark, goes_on_remark}
 use Rattle.audit_core.proofs.OneLine.{plain_opcode, worded}
 use Rattle.audit_core.proofs.Plain.{plain_codes, plain_decimal, plain_hex, plain_more, plain_nibble, plain_phys}
@@ -283,16 +283,16 @@ said_late : (begin : ℕ) (waiting : List Request) → AreSaid (late_lines begin
 said_late begin [] = tt
 said_late begin (r ∷ rs) = said_more _ _ (unless (is_late begin r) _ (tt, tt)) (said_late begin rs)
 
-said_answer : (begin : ℕ) (frame : List ℕ) (r : Request) → AreSaid (answer_lines begin frame r)
-said_answer begin frame r = by (is_answer frame r)
+said_answer : (first : ℕ) (sent : List ℕ) (begin : ℕ) (frame : List ℕ) (r : Request) → AreSaid (answer_lines first sent begin frame r)
+said_answer first sent begin frame r = by (is_answer first sent r)
   where
-    by : (b : Bool) → AreSaid (if b then if_answered begin r else if_given_up begin frame r)
-    by true = unless (is_late begin r) _ (tt, tt)
+    by : (b : Bool) → AreSaid (if b then if_answered first r else if_given_up begin frame r)
+    by true = unless (is_late first r) _ (tt, tt)
     by false = unless (is_given_up begin frame r) _ (tt, tt)
 
-said_answers : (begin : ℕ) (frame : List ℕ) (waiting : List Request) → AreSaid (answers_lines begin frame waiting)
-said_answers begin frame [] = tt
-said_answers begin frame (r ∷ rs) = said_more _ _ (said_answer begin frame r) (said_answers begin frame rs)
+said_answers : (first : ℕ) (sent : List ℕ) (begin : ℕ) (frame : List ℕ) (waiting : List Request) → AreSaid (answers_lines first sent begin frame waiting)
+said_answers first sent begin frame [] = tt
+said_answers first sent begin frame (r ∷ rs) = said_more _ _ (said_answer first sent begin frame r) (said_answers first sent begin frame rs)
 
 said_spread : (kind : SpreadKind) (s : Spread) → AreSaid (spread_lines kind s)
 said_spread kind s = unless_not (s.count == 0) _ (tt, tt)
@@ -331,7 +331,7 @@ said_times t x lows drive =
     (said_more _ _
     (said_more _ _
     (said_more _ _
-    (said_more _ _ (said_noted (option_map notes.BadStarts (series_over t.series x.reported.ending))) (said_answers x.begin (delivered_frame x) t.waiting)) (said_noted (option_map notes.Free (too_soon t.previous x (tries_again t.attempts x.reported.bits))))) (said_measured t x lows drive)) (said_noted (option_map notes.LowDrive drive)))
+    (said_more _ _ (said_noted (option_map notes.BadStarts (series_over t.series x.reported.ending))) (said_answers (first_begin t x) (sent_frame x) x.begin (delivered_frame x) t.waiting)) (said_noted (option_map notes.Free (too_soon t.previous x (tries_again t.attempts x.reported.bits))))) (said_measured t x lows drive)) (said_noted (option_map notes.LowDrive drive)))
     (said_noted (option_map notes.DriveWithin (drive_within lows)))) (said_noted (option_map notes.Unfinished (unfinished_of x lows)))) (said_noted (option_map notes.Attempt (failure_of t.attempts x.begin (free_before t.previous x.begin) x.reported.bits))))
     (said_noted (goes_on_note x.reported.bits (goes_on_after x.reported.bits))))
     (said_noted (ending_note x.reported.bits (ending_of t.previous t.series drive x lows)))

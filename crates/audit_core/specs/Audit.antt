@@ -25,9 +25,9 @@ use Rattle.audit_remarks.specs.declared.free.Previous.{Previous}
 use Rattle.audit_remarks.specs.declared.requests.Request.{Request}
 use Rattle.audit_remarks.specs.declared.series.BadStartSeries.{BadStartSeries}
 use Rattle.audit_remarks.specs.declared.sources.Sources.{Sources}
-use Rattle.audit_remarks.specs.Attempts.{after_attempt, failure_of, no_attempts, tries_again}
+use Rattle.audit_remarks.specs.Attempts.{after_attempt, failure_of, first_of, no_attempts, tries_again}
 use Rattle.audit_remarks.specs.Counts.{no_counts, with_reading}
-use Rattle.audit_remarks.specs.Frames.{delivered_frame, sender}
+use Rattle.audit_remarks.specs.Frames.{delivered_frame, sender, sent_frame}
 use Rattle.audit_remarks.specs.Endings.{ending_of, goes_on_after, is_measured, last_says}
 use Rattle.audit_remarks.specs.Free.{free_before, no_previous, previous_with, too_soon}
 use Rattle.audit_core.specs.Lines.{answers_lines, claims_lines, counts_lines, ending_note, goes_on_note, last_of, late_lines, misfit_lines, named_lines, noted, timing_lines, widths_lines}
@@ -80,10 +80,11 @@ falls_until _ at = at
 abbrev pub lows_of : Listed → List Edge → List Low
 lows_of x edges = lows_before (falls_until x.reported.ending x.reported.at) edges
 
--- a reading that is heard has its low stretches and the frame that it delivers
+-- a reading that is heard has its low stretches, and the frames that it delivers and that were sent
 pub record IsHeard (h : Heard) : Type 0 where
   pub lows : h.lows.now.items ≡ lows_of (listed_as h.reading.now) h.edges.now
   pub frame : h.frame.items ≡ delivered_frame (listed_as h.reading.now)
+  pub sent : h.sent.items ≡ sent_frame (listed_as h.reading.now)
 
 -- the low drive that may follow it
 abbrev pub drive_by : Ending → Option Low → Option ℕ
@@ -103,10 +104,14 @@ abbrev pub unfinished_of : Listed → List Low → Option ℕ
 unfinished_of x lows =
     if is_some (drive_within lows) || last_says x.reported.ending x.reported.bits 0 lows then None else unfinished x.reported.ending x.reported.bits
 
+-- where the first attempt at its frame began
+abbrev pub first_begin : Tape → Listed → ℕ
+first_begin t x = first_of t.attempts x.begin (free_before t.previous x.begin) x.reported.bits
+
 -- what there is to remark of what was before it, of its times and its blocks, by its low stretches and the low drive that follows
 abbrev pub times_lines : Tape → Listed → List Low → Option ℕ → List AuditLine
 times_lines t x lows drive =
-    noted (option_map notes.BadStarts (series_over t.series x.reported.ending)) ++ answers_lines x.begin (delivered_frame x) t.waiting
+    noted (option_map notes.BadStarts (series_over t.series x.reported.ending)) ++ answers_lines (first_begin t x) (sent_frame x) x.begin (delivered_frame x) t.waiting
     ++ noted (option_map notes.Free (too_soon t.previous x (tries_again t.attempts x.reported.bits))) ++ reading_misfits t x lows drive ++ noted (option_map notes.LowDrive drive)
     ++ noted (option_map notes.DriveWithin (drive_within lows)) ++ noted (option_map notes.Unfinished (unfinished_of x lows))
     ++ noted (option_map notes.Attempt (failure_of t.attempts x.begin (free_before t.previous x.begin) x.reported.bits))
@@ -147,7 +152,7 @@ tape_by lows x t = record {
   previous = previous_with t.previous x lows;
   attempts = after_attempt t.attempts x (free_before t.previous x.begin);
   series = after_start t.series x.reported.ending x.begin;
-  waiting = after_frame x.begin x.reported.at (delivered_frame x) t.waiting;
+  waiting = after_frame (first_begin t x) (sent_frame x) x.begin x.reported.at (delivered_frame x) t.waiting;
   places = with_places (delivered_frame x) t.places;
   sources = with_sources (delivered_frame x) x.reported.at t.sources;
   counts = with_reading x.reported.ending x.reported.bits t.counts;

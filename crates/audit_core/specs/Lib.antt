@@ -2,4 +2,4 @@ pub mod Lines
 pub mod Audit
 pub mod Kept
 pub mod Endings
-pub mod Joined
+pub mod Measured

@@ -1,5 +1,5 @@
 -- What is said of a reading, part by part (own).
-use Rattle.std.specs.Prelude.{ℕ, ◌+◌, ◌/◌, ◌==◌, Bool, true, false, ◌&&◌, if◌then◌else◌, List, [], ◌∷◌, ◌++◌, length, Option, Some, None, option_map}
+use Rattle.std.specs.Prelude.{ℕ, ◌+◌, ◌/◌, ◌==◌, Bool, true, false, ◌&&◌, ◌||◌, is_some, if◌then◌else◌, List, [], ◌∷◌, ◌++◌, length, Option, Some, None, option_map}
 use Rattle.line_frames.specs.declared.Ending.{Ending as EndingOf}
 use Rattle.line_reading.specs.Readings.{Listed}
 use Rattle.audit_judged.specs.declared.widths.Party.TheVariants.{Initiator}
@@ -14,6 +14,7 @@ use Rattle.audit_remarks.specs.declared.sources.Mention.{Mention}
 use Rattle.audit_judged.specs.declared.endings.Said.{Said}
 use Rattle.audit_judged.specs.declared.endings.Said.TheVariants.{Nothing, Allowed, Remarked}
 use Rattle.audit_remarks.specs.Endings.{initiator_read, is_stray, party_of}
+use Rattle.audit_remarks.specs.Header.{stops_untaken}
 use Rattle.audit_remarks.specs.Requests.{is_answer, is_given_up, is_late, waited}
 use Rattle.audit_remarks.specs.Sources.{is_unreported}
 use Rattle.audit_notes.specs.Lines.{AuditLine}
@@ -38,15 +39,20 @@ named_lines (Some name) = Word name ∷ []
 
 -- ---- times
 
--- the last slot, after or within which a low drive of this width begins
-abbrev pub last_by : Option ℕ → Option ℕ → LastSlot
-last_by drive (Some width) = Driven
-last_by (Some width) None = Followed
-last_by None None = Own
+-- the last slot, which something else follows, or within which a low drive of this width begins
+abbrev pub last_by : Bool → Option ℕ → LastSlot
+last_by followed (Some width) = Driven
+last_by true None = Followed
+last_by false None = Own
+
+-- A low drive of this width follows it, or a block that was not taken is the frame's end: what comes after that is another frame, of
+-- which the signal free time is due (CEC 7.1, 9.1).
+abbrev pub is_followed : Option ℕ → Listed → Bool
+is_followed drive x = is_some drive || stops_untaken x.reported.ending x.reported.bits
 
 -- what is no start bit is one low, and what comes after it has nothing to do with it
 abbrev pub last_of : Option ℕ → Listed → List Low → LastSlot
-last_of drive x lows = if is_stray x lows then Followed else last_by drive (drive_within lows)
+last_of drive x lows = if is_stray x lows then Followed else last_by (is_followed drive x) (drive_within lows)
 
 -- a slot before so many others
 abbrev pub slot_by : LastSlot → ℕ → LastSlot
@@ -98,19 +104,20 @@ abbrev pub late_lines : ℕ → List Request → List AuditLine
 late_lines begin [] = []
 late_lines begin (r ∷ rs) = if_late begin r ++ late_lines begin rs
 
--- by a frame that may answer it, in a second at most (CEC 9.2)
+-- By a reading that begins then, with the frame that it delivered, and the one that was sent, whose first attempt began at `first`: that
+-- one may answer it, in a second at most (CEC 9.2).
 abbrev pub if_answered : ℕ → Request → List AuditLine
 if_answered begin r = if is_late begin r then Note (LateAnswer (waited begin r)) ∷ [] else []
 
 abbrev pub if_given_up : ℕ → List ℕ → Request → List AuditLine
 if_given_up begin frame r = if is_given_up begin frame r then Note (NoAnswer r) ∷ [] else []
 
-abbrev pub answer_lines : ℕ → List ℕ → Request → List AuditLine
-answer_lines begin frame r = if is_answer frame r then if_answered begin r else if_given_up begin frame r
+abbrev pub answer_lines : ℕ → List ℕ → ℕ → List ℕ → Request → List AuditLine
+answer_lines first sent begin frame r = if is_answer first sent r then if_answered first r else if_given_up begin frame r
 
-abbrev pub answers_lines : ℕ → List ℕ → List Request → List AuditLine
-answers_lines begin frame [] = []
-answers_lines begin frame (r ∷ rs) = answer_lines begin frame r ++ answers_lines begin frame rs
+abbrev pub answers_lines : ℕ → List ℕ → ℕ → List ℕ → List Request → List AuditLine
+answers_lines first sent begin frame [] = []
+answers_lines first sent begin frame (r ∷ rs) = answer_lines first sent begin frame r ++ answers_lines first sent begin frame rs
 
 -- ---- widths
 

@@ -2,8 +2,9 @@
 ghost use Rattle.std.specs.Prelude.{◌≡◌, []};
 ghost use Rattle.std.specs.Option.{option_copied};
 ghost use Rattle.line_reading.specs.Reports.{listed_as};
-ghost use Rattle.audit_core.specs.Audit.{IsHeard, drive_of, first_tape, frame_lines, named_of, read_lines, reading_misfits, remark_lines, summary_lines, tape_after, tape_at, times_lines};
+ghost use Rattle.audit_core.specs.Audit.{IsHeard, drive_of, first_begin, first_tape, frame_lines, named_of, read_lines, reading_misfits, remark_lines, summary_lines, tape_after, tape_at, times_lines};
 ghost use Rattle.audit_core.specs.Lines.{timing_lines};
+ghost use Rattle.audit_core.specs.Measured.{free_of, measured_by, measured_of, waits_of};
 ghost use Rattle.audit_widths.specs.Misfits.{drive_within};
 ghost use Rattle.audit_widths.specs.Spreads.{no_widths, with_slots};
 
@@ -12,19 +13,21 @@ use crate::lines::{
     hear_answers, hear_claims, hear_counts, hear_late, hear_misfits, hear_named, hear_noted,
     hear_widths, last_of,
 };
+use crate::measured::{push_owned, push_waits};
 use crate::notes::{
     attempt_note, block_note, drive_note, ending_note, goes_on_note, head_note, moved_note,
     operands_note, receivers_note, series_note, soon_note, within_note,
 };
+use arrayvec::ArrayVec;
 use audit_notes::{AuditNote, LineHearer};
 use audit_remarks::{
-    Attempts, BadStartSeries, Counts, Places, Previous, Sources, Waiting, after_frame,
-    count_reading, goes_on_after, head_read, is_measured, missed_receivers, missing_operands,
-    moved_from, no_counts, no_places, note_report, sender,
+    Attempts, BadStartSeries, Counts, FreeTaken, Places, Previous, Sources, WAITING, Waiting,
+    after_frame, count_reading, goes_on_after, head_read, is_measured, missed_receivers,
+    missing_operands, moved_from, no_counts, no_places, note_report, sender, sent_frame,
 };
-use audit_widths::{Widths, drive_within};
+use audit_widths::{Low, Widths, drive_within};
 use line_frames::Reading;
-use line_wave::Edge;
+use line_wave::{Edge, MOST_SENT};
 use message_hex::remark;
 
 /// What is kept of the readings so far. It is told the edges of each, and keeps none.
@@ -105,6 +108,14 @@ impl Auditor {
         }
     }
 
+    // Where the first attempt at the frame of a reading began.
+    fn first_begin(&self, reading: &Reading) -> u64
+        ensures { result ≡ first_begin (tape_at [] self.now) (listed_as reading.now) }
+    {
+        let free = self.previous.free_before(reading.begin);
+        self.attempts.first_of(reading.begin, free, &reading.bits)
+    }
+
     // What there is to remark of what was before a reading, of its times and its blocks.
     fn hear_times<H: LineHearer>(&self, out: &mut H, heard: &Heard)
         requires { IsHeard heard.now }
@@ -118,9 +129,17 @@ impl Auditor {
         let drive = heard.drive();
         let within = drive_within(heard.lows.as_slice());
         let failure = self.attempts.failure_of(reading.begin, free, &reading.bits);
+        let first = self.first_begin(reading);
         let said = heard.ending(self.previous, self.series, drive);
         hear_noted(out, series_note(series));
-        hear_answers(out, reading.begin, &heard.frame, &self.waiting);
+        hear_answers(
+            out,
+            first,
+            &heard.sent,
+            reading.begin,
+            &heard.frame,
+            &self.waiting,
+        );
         hear_noted(out, soon_note(soon));
         self.hear_reading_misfits(out, heard, drive, within);
         hear_noted(out, drive_note(drive));
@@ -165,14 +184,66 @@ impl Auditor {
         let reading = heard.reading;
         let lows = heard.lows.as_slice();
         let free = self.previous.free_before(reading.begin);
+        let first = self.first_begin(reading);
         self.attempts.note(reading, free);
         self.previous = self.previous.with(reading, lows);
         self.series = self.series.with(reading.ending, reading.begin);
-        self.waiting = after_frame(reading.begin, reading.at, &heard.frame, &self.waiting);
+        self.waiting = after_frame(
+            first,
+            &heard.sent,
+            reading.begin,
+            reading.at,
+            &heard.frame,
+            &self.waiting,
+        );
         note_report(&heard.frame, &mut self.places);
         self.sources.note(&heard.frame, reading.at);
         count_reading(reading.ending, &reading.bits, &mut self.counts);
         self.widths.add(reading.ending, &reading.bits, 0, lows);
+    }
+
+    /// The signal free time before the next reading, also where it was long enough.
+    pub fn free_taken(&self, reading: &Reading) -> Option<FreeTaken>
+        ensures { result ≡ free_of (tape_at [] self.now) (listed_as reading.now) }
+    {
+        let again = self.attempts.tries_again(&reading.bits);
+        self.previous.taken(reading, again)
+    }
+
+    /// How long the requests had waited that the next reading answers, in microseconds.
+    pub fn waits(&self, reading: &Reading) -> ArrayVec<u64, WAITING>
+        ensures { result.items ≡ waits_of (tape_at [] self.now) (listed_as reading.now) }
+    {
+        let sent = sent_frame(reading);
+        let mut waits = ArrayVec::new();
+        push_waits(self.first_begin(reading), &sent, &self.waiting, &mut waits);
+        waits
+    }
+
+    // Its low stretches with what of each is measured, where it is measured.
+    fn measured_by(&self, heard: &Heard) -> ArrayVec<Low, MOST_SENT>
+        requires { IsHeard heard.now }
+        ensures { result.items ≡ measured_by (tape_at heard.now.edges.now self.now) (listed_as heard.now.reading.now) heard.now.lows.now.items (drive_of (listed_as heard.now.reading.now) heard.now.edges.now) }
+    {
+        let reading = heard.reading;
+        let lows = heard.lows.as_slice();
+        let mut kept = ArrayVec::new();
+        if !is_measured(self.previous, self.series, reading, lows) {
+            return kept;
+        }
+        let last = last_of(heard.drive(), drive_within(lows), reading, lows);
+        push_owned(last, lows, &mut kept);
+        kept
+    }
+
+    /// The low stretches of the next reading with those of their widths that an audit measures: one without a rise has no low time,
+    /// one without the next fall no total. `edges` are those of the capture from its fall on.
+    pub fn measured(&self, reading: &Reading, edges: &[Edge]) -> ArrayVec<Low, MOST_SENT>
+        ensures { result.items ≡ measured_of (tape_at edges.now self.now) (listed_as reading.now) }
+    {
+        let lows = lows_of(reading, edges);
+        let heard = Heard::new(reading, edges, &lows);
+        self.measured_by(&heard)
     }
 
     /// Has what there is to remark of a reading heard, and keeps it. `edges` are those of the capture from its fall on.

@@ -7,19 +7,22 @@ ghost use Rattle.audit_widths.specs.Spreads.{no_widths, with_slots};
 
 use arrayvec::ArrayVec;
 use audit_judged::Said;
-use audit_remarks::{BadStartSeries, Previous, delivered_frame, ending_of, last_says, unfinished};
+use audit_remarks::{
+    BadStartSeries, Previous, delivered_frame, ending_of, last_says, sent_frame, unfinished,
+};
 use audit_widths::{Cursor, Low, Widths, drive_within, first_low, low_drive, lows_before};
 use line_frames::{Ending, Reading};
 use line_wave::{Edge, MOST_SENT};
 
-/// A reading and the edges of its capture from its fall on, with its low stretches and the frame that it delivers. The low
-/// stretches are the caller's, since they take 6 KB.
+/// A reading and the edges of its capture from its fall on, with its low stretches, the frame that it delivers, and the one
+/// that was sent. The low stretches are the caller's, since they take 6 KB.
 #[derive(Drop)]
 pub(crate) struct Heard<'a> {
     pub(crate) reading: &'a Reading,
     pub(crate) edges: &'a [Edge],
     pub(crate) lows: &'a ArrayVec<Low, MOST_SENT>,
     pub(crate) frame: ArrayVec<u8, 16>,
+    pub(crate) sent: ArrayVec<u8, 16>,
 }
 
 // The instant before which the slots of a reading fall.
@@ -55,6 +58,7 @@ impl<'a> Heard<'a> {
             edges,
             lows,
             frame: delivered_frame(reading),
+            sent: sent_frame(reading),
         }
     }
 

@@ -6,6 +6,7 @@ mod auditor;
 mod heard;
 mod laws;
 mod lines;
+mod measured;
 mod notes;
 mod readings;
 mod whole;

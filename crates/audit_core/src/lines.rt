@@ -3,11 +3,11 @@ ghost use Rattle.std.specs.Prelude.{◌≡◌, ◌+◌, ◌<◌, ◌≤◌, leng
 ghost use Rattle.std.specs.Option.{option_copied};
 ghost use Rattle.line_reading.specs.Reports.{listed_as};
 ghost use Rattle.audit_widths.specs.Misfits.{drive_within};
-ghost use Rattle.audit_core.specs.Lines.{answer_lines, answers_lines, claims_lines, count_lines, counts_lines, if_answered, if_given_up, if_late, last_by, last_of, late_lines, misfit_lines, named_lines, noted, slot_by, slot_low, slot_total, spread_lines, summary_of, unless_reported, widths_lines};
+ghost use Rattle.audit_core.specs.Lines.{answer_lines, answers_lines, claims_lines, count_lines, counts_lines, if_answered, if_given_up, if_late, is_followed, last_by, last_of, late_lines, misfit_lines, named_lines, noted, slot_by, slot_low, slot_total, spread_lines, summary_of, unless_reported, widths_lines};
 
 use crate::notes::misfit_note;
 use audit_notes::{AuditNote, LineHearer, SpreadKind, WidthSummary};
-use audit_remarks::{FrameCount, Mention, Request, Sources, is_stray};
+use audit_remarks::{FrameCount, Mention, Request, Sources, is_stray, stops_untaken};
 use audit_widths::{Low, Misfit, Spread, Widths, low_misfit, total_misfit};
 use line_frames::{Ending, Reading};
 
@@ -16,23 +16,33 @@ use line_frames::{Ending, Reading};
 pub(crate) enum LastSlot {
     /// Both.
     Own,
-    /// A low drive follows: the time to the next fall is none.
+    /// A low drive follows, or another frame: the time to the next fall is none.
     Followed,
     /// A low drive begins within it: neither is.
     Driven,
 }
 
-// The last slot of a reading that a low drive of this width follows, or within which one begins.
-fn last_by(drive: Option<u64>, within: Option<u64>) -> LastSlot
-    ensures { result ≡ last_by drive within }
+// The last slot of a reading which something else follows, or within which a low drive of this width begins.
+fn last_by(followed: bool, within: Option<u64>) -> LastSlot
+    ensures { result ≡ last_by followed within }
 {
     match within {
         Some(_) => LastSlot::Driven,
-        None => match drive {
-            Some(_) => LastSlot::Followed,
-            None => LastSlot::Own,
-        },
+        None => {
+            if followed {
+                LastSlot::Followed
+            } else {
+                LastSlot::Own
+            }
+        }
     }
+}
+
+// Whether a low drive of this width follows a reading, or it stops with a block that was not taken.
+fn is_followed(drive: Option<u64>, reading: &Reading) -> bool
+    ensures { result ≡ is_followed drive (listed_as reading.now) }
+{
+    drive.is_some() || stops_untaken(reading.ending, &reading.bits)
 }
 
 /// The same of a reading of these low stretches: of a bad start that is no start bit by its low time that time alone is its own.
@@ -48,13 +58,13 @@ pub(crate) fn last_of(
     if is_stray(reading, lows) {
         LastSlot::Followed
     } else {
-        last_by(drive, within)
+        last_by(is_followed(drive, reading), within)
     }
 }
 
 impl LastSlot {
-    // A slot before so many others. The widths of all but the last one are their own.
-    fn slot_by(self, left: usize) -> Self
+    /// A slot before so many others. The widths of all but the last one are their own.
+    pub(crate) fn slot_by(self, left: usize) -> Self
         ensures { result ≡ slot_by self left }
     {
         if left == 0 { self } else { LastSlot::Own }
@@ -168,30 +178,40 @@ fn hear_if_answered<H: LineHearer>(out: &mut H, begin: u64, request: Request)
     out.note(AuditNote::LateAnswer(request.waited(begin)));
 }
 
-fn hear_answer<H: LineHearer>(out: &mut H, begin: u64, frame: &[u8], request: Request)
-    ensures { H.hears out.old (answer_lines begin frame.now request) out.new }
+fn hear_answer<H: LineHearer>(
+    out: &mut H,
+    first: u64,
+    sent: &[u8],
+    begin: u64,
+    frame: &[u8],
+    request: Request,
+)
+    ensures { H.hears out.old (answer_lines first sent.now begin frame.now request) out.new }
 {
-    if request.is_answer(frame) {
-        hear_if_answered(out, begin, request);
+    if request.is_answer(first, sent) {
+        hear_if_answered(out, first, request);
         return;
     }
     hear_if_given_up(out, begin, frame, request);
 }
 
-/// Hears which requests a frame answers too late, and which stay without an answer, of those that wait when its reading begins.
+/// Hears which requests a frame answers too late that was sent, with a first attempt at `first`, and which stay without an answer, of
+/// those that wait when its reading begins, which delivers this frame.
 pub(crate) fn hear_answers<H: LineHearer>(
     out: &mut H,
+    first: u64,
+    sent: &[u8],
     begin: u64,
     frame: &[u8],
     waiting: &[Request],
 )
-    ensures { H.hears out.old (answers_lines begin frame.now waiting.now) out.new }
+    ensures { H.hears out.old (answers_lines first sent.now begin frame.now waiting.now) out.new }
 {
     let [request, waiting @ ..] = waiting else {
         return;
     };
-    hear_answer(out, begin, frame, *request);
-    hear_answers(out, begin, frame, waiting);
+    hear_answer(out, first, sent, begin, frame, *request);
+    hear_answers(out, first, sent, begin, frame, waiting);
 }
 
 /// Hears the requests that have waited for more than a second at an instant.

@@ -8,84 +8,25 @@ ghost use Rattle.capture_monitor.specs.Watch.{as_file, captured_by, file_reading
 ghost use Rattle.record_core.specs.declared.cell.Form.TheVariants.{Text};
 ghost use Rattle.text_core.specs.Cut.{WritesText};
 ghost use Rattle.audit_notes.specs.Lines.{AuditLine, lines_text};
-ghost use Rattle.audit_core.specs.Joined.{IsJoined, has_joined, idle_by, joined_lines};
+ghost use Rattle.capture_join.specs.Joined.{IsJoined, joined_lines};
 
-use audit_notes::{LineHearer, ReadingGroup};
+use audit_notes::LineHearer;
 use capture_core::Capture;
+use capture_join::{IdleSearch, has_joined, hear_joined};
 use capture_monitor::Monitor;
-use line_frames::{FreeTime, Reading};
 use line_reading::{STANDARD, Windows};
 use text_core::{Counted, Sink, WriteFault};
-
-// The instant, up to another one, at which the line has been high for the shortest signal free time (CEC 9.1). No frame has its
-// line high for so long, so a reading after it is sure to begin with a start bit.
-fn idle_by(high_since: Option<u64>, until: u64) -> Option<u64>
-    ensures { result ≡ idle_by high_since until }
-{
-    let since = high_since?;
-    let free = FreeTime::Retry.micros();
-    if u128::from(since) + u128::from(free) <= u128::from(until) {
-        Some(since + free)
-    } else {
-        None
-    }
-}
 
 // The first instant at which the line is idle, or the end.
 fn joined_at(capture: &Capture) -> u64
     ensures { IsJoined (line_of_edges capture.now.edges) capture.now.end result }
 {
     let edges = capture.edges();
-    let mut high_since = Some(0);
+    let mut search = IdleSearch::new();
     for edge in edges {
-        if let Some(instant) = idle_by(high_since, edge.at) {
-            return instant;
-        }
-        high_since = if edge.low { None } else { Some(edge.at) };
+        search.edge(*edge);
     }
-    match idle_by(high_since, capture.end()) {
-        Some(instant) => instant,
-        None => capture.end(),
-    }
-}
-
-// Whether a reading is joined, or one was before it.
-fn has_joined(reading: &Option<Reading>, joined_at: u64, is_reported: bool) -> bool
-    ensures { result ≡ (is_reported || has_joined joined_at (option_to_list (option_map listed_as reading.now))) }
-{
-    match reading {
-        None => is_reported,
-        Some(reading) => is_reported || reading.begin < joined_at,
-    }
-}
-
-// Hears a reading, if there is one.
-fn hear_reading<H: LineHearer>(out: &mut H, reading: &Option<Reading>)
-    ensures { H.hears out.old (map AuditLine.Reading (option_to_list (option_map listed_as reading.now))) out.new }
-{
-    match reading {
-        None => {}
-        Some(reading) => out.reading(reading),
-    }
-}
-
-// Hears it, or the line that stands for all that are joined.
-fn hear_one<H: LineHearer>(
-    out: &mut H,
-    reading: &Option<Reading>,
-    joined_at: u64,
-    is_reported: bool,
-)
-    ensures { H.hears out.old (joined_lines joined_at is_reported (option_to_list (option_map listed_as reading.now))) out.new }
-{
-    if !has_joined(reading, joined_at, false) {
-        hear_reading(out, reading);
-        return;
-    }
-    if is_reported {
-        return;
-    }
-    out.group(ReadingGroup::Joined(joined_at));
+    search.end(capture.end())
 }
 
 // Hears the readings of a capture by windows, joined up to an instant.
@@ -98,11 +39,11 @@ fn hear_from<H: LineHearer>(capture: &Capture, windows: Windows, joined_at: u64,
     let mut is_reported = false;
     for edge in edges {
         let reading = monitor.edge(*edge);
-        hear_one(out, &reading, joined_at, is_reported);
+        hear_joined(out, &reading, joined_at, is_reported);
         is_reported = has_joined(&reading, joined_at, is_reported);
     }
     let reading = monitor.finish(capture.end());
-    hear_one(out, &reading, joined_at, is_reported);
+    hear_joined(out, &reading, joined_at, is_reported);
 }
 
 /// Has the readings of a capture heard, as a monitor reads them by these windows.

@@ -2,7 +2,7 @@
 use Rattle.std.proofs.Common.{◌≡◌, ℕ, suc, ◌+◌, ◌==◌, ◌&&◌, ◌||◌, Bool, true, false, if◌then◌else◌, length, List, [], ◌∷◌, ◌++◌, Option, Some, None, refl, sym, ap, ◌∙◌, append_assoc, append-nil, arith}
 use Rattle.std.specs.List.{flat_map, list_any}
 use Rattle.audit_notes.specs.Lines.{AuditLine}
-use Rattle.audit_notes.specs.Folded.{Folding, Run, close_of, closed, counted, folded, folded_after, group_lines, groups_of, is_bad_start, last_of, run_of, with_bad, with_group}
+use Rattle.audit_notes.specs.Folded.{Folding, Run, close_of, closed, counted, folded, folded_after, folded_if, group_lines, groups_of, is_bad_start, last_of, run_of, shown_after, with_bad, with_group}
 
 -- ---- groups
 
@@ -125,5 +125,10 @@ written (next ∷ rest) = written_more next rest (is_bad_start next) refl (writt
 whole : (lines done : List AuditLine) (run : Option Run) → ((rest : List AuditLine) → folded_after None (lines ++ rest) ≡ done ++ folded_after run rest) → done ++ closed run ≡ folded lines
 whole lines done run heard = sym (heard []) ∙ ap (folded_after None) (append-nil lines) ∙ (written lines).0
 
+-- folded or not
+shown_whole : (folds : Bool) (lines : List AuditLine) → shown_after folds None lines ≡ folded_if folds lines
+shown_whole true lines = (written lines).0
+shown_whole false lines = refl
+
 pub folding : Folding
-folding = record { lines = all_lines; same = none_bad; ended = whole }
+folding = record { lines = all_lines; same = none_bad; ended = whole; whole = shown_whole }

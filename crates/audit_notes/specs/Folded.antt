@@ -1,6 +1,6 @@
 -- Lines in which bad starts one after another are one line (own): `FROM TO bad-starts N`, from the first fall to the last ending, and
 -- how many there are.
-use Rattle.std.specs.Prelude.{◌≡◌, ℕ, ◌+◌, ◌==◌, ◌&&◌, min, Bool, false, if◌then◌else◌, length, List, [], ◌∷◌, ◌++◌, Option, Some, None, option_map}
+use Rattle.std.specs.Prelude.{◌≡◌, ℕ, ◌+◌, ◌==◌, ◌&&◌, min, Bool, false, true, if◌then◌else◌, length, List, [], ◌∷◌, ◌++◌, Option, Some, None, option_map}
 use Rattle.std.specs.List.{flat_map, list_any}
 use Rattle.line_reading.specs.Readings.{Listed}
 use Rattle.line_reading.specs.Reports.{listed_as}
@@ -63,6 +63,11 @@ group_lines (line ∷ lines) = run_line (run_of line lines) ∷ []
 abbrev pub folded : List AuditLine → List AuditLine
 folded lines = flat_map group_lines (groups_of lines)
 
+-- as they stand, or with bad starts one after another as one line
+abbrev pub folded_if : Bool → List AuditLine → List AuditLine
+folded_if true lines = folded lines
+folded_if false lines = lines
+
 -- ---- as it is found
 
 -- a run, and one bad start more
@@ -88,12 +93,18 @@ folded_after run (line ∷ lines) =
     if is_bad_start line then folded_after (Some (with_bad run line)) lines
     else closed run ++ (line ∷ folded_after None lines)
 
+-- what stands for the lines that are left, where bad starts are folded and where they are not
+abbrev pub shown_after : Bool → Option Run → List AuditLine → List AuditLine
+shown_after true run lines = folded_after run lines
+shown_after false run lines = lines
+
 -- ---- laws
 
 pub record Folding : Type 0 where
   pub lines : (lines : List AuditLine) → flat_map (λ group. group) (groups_of lines) ≡ lines
   pub same : (lines : List AuditLine) → list_any is_bad_start lines ≡ false → folded lines ≡ lines
   pub ended : (lines done : List AuditLine) (run : Option Run) → ((rest : List AuditLine) → folded_after None (lines ++ rest) ≡ done ++ folded_after run rest) → done ++ closed run ≡ folded lines
+  pub whole : (folds : Bool) (lines : List AuditLine) → shown_after folds None lines ≡ folded_if folds lines
 
 -- The lines of the groups are the lines, and where there is no bad start each stands as it is; and what stands for lines one by one,
 -- with what is held at the end, is what stands for the groups.

@@ -21,8 +21,9 @@ pub struct HeldRun {
 /// What hears lines, bad starts one after another as one.
 #[derive(Drop)]
 pub struct Folding<H> {
-    hearer: H,
-    run: Option<HeldRun>,
+    pub hearer: H,
+    /// What is held: it goes on where another hearer takes it.
+    pub run: Option<HeldRun>,
 }
 
 // The same reading again.

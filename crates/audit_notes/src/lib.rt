@@ -12,7 +12,7 @@ mod records;
 mod strict;
 mod writing;
 
-pub use folding::Folding;
+pub use folding::{Folding, HeldRun};
 pub use hearing::LineHearer;
 pub use kind::NoteKind;
 pub use laws::folding_loses_no_line;

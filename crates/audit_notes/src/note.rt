@@ -25,7 +25,7 @@ pub enum SpreadKind {
 
 impl SpreadKind {
     /// What they are called.
-    pub(crate) fn name(self) -> &'static str
+    pub fn name(self) -> &'static str
         ensures { result.now ≡ spread_name self }
     {
         match self {

@@ -45,12 +45,21 @@ attempt_after since bits (Some e) = if not e.taken && (nat_le since e.begin && r
 abbrev pub attempt_of : Attempts → ℕ → ℕ → List Bool → ℕ
 attempt_of a begin free bits = attempt_after (since_with a begin free) bits (slice_index_or a.last (initiator_of bits) None)
 
+-- where the first attempt began, of a reading that begins then
+abbrev pub first_after : ℕ → ℕ → List Bool → Option LastFrame → ℕ
+first_after since begin bits None = begin
+first_after since begin bits (Some e) = if not e.taken && (nat_le since e.begin && repeats e.bits.items bits) then e.first else begin
+
+abbrev pub first_of : Attempts → ℕ → ℕ → List Bool → ℕ
+first_of a begin free bits = first_after (since_with a begin free) begin bits (slice_index_or a.last (initiator_of bits) None)
+
 abbrev pub earlier_of : Attempts → Listed → ℕ → LastFrame
 earlier_of a x free = record {
   begin = x.begin;
   bits = record { items = x.reported.bits };
   taken = is_delivered x.reported.ending x.reported.bits;
   attempt = attempt_of a x.begin free x.reported.bits;
+  first = first_of a x.begin free x.reported.bits;
 }
 
 -- Bad starts are no frames. A reading without a whole header, or a look for an address, is nobody's.

@@ -1,5 +1,5 @@
 -- What is said of how a reading ends, where no width, no low drive and no block says it (CEC 6.1, 7.2; own).
-use Rattle.std.specs.Prelude.{ℕ, ◌+◌, ◌-◌, ◌/◌, ◌%◌, ◌==◌, Bool, true, false, not, nat_lt, nat_le, ◌&&◌, ◌||◌, is_some, if◌then◌else◌, List, [], ◌∷◌, length, slice_index_or, Option, Some, None}
+use Rattle.std.specs.Prelude.{ℕ, ◌+◌, ◌-◌, ◌/◌, ◌==◌, Bool, true, false, not, nat_lt, nat_le, ◌&&◌, ◌||◌, is_some, if◌then◌else◌, List, [], ◌∷◌, length, slice_index_or, Option, Some, None}
 use Rattle.line_frames.specs.FreeTime.{free_time_of}
 use Rattle.line_frames.specs.declared.free_time.FreeTime.TheVariants.{Retry}
 use Rattle.line_frames.specs.declared.Ending.{Ending}
@@ -20,7 +20,7 @@ use Rattle.audit_remarks.specs.declared.free.EarlierSender.TheVariants as sender
 use Rattle.audit_remarks.specs.declared.free.Previous.{Previous}
 use Rattle.audit_remarks.specs.declared.series.BadStartSeries.{BadStartSeries}
 use Rattle.audit_remarks.specs.Free.{free_before, is_bad_start}
-use Rattle.audit_remarks.specs.Header.{failed_block, initiator_of, seeks_address, unfinished}
+use Rattle.audit_remarks.specs.Header.{ends_untaken, failed_block, initiator_of, unfinished}
 
 -- ---- bits behind a reading
 
@@ -61,14 +61,6 @@ width_says ending bits slot low = is_some (total_misfit ending bits slot low) ||
 abbrev pub last_says : Ending → List Bool → ℕ → List Low → Bool
 last_says ending bits slot [] = false
 last_says ending bits slot (low ∷ lows) = if length lows == 0 then width_says ending bits slot low else last_says ending bits (slot + 1) lows
-
--- Its last block was not taken, and what polls its own address is not to be.
-abbrev pub is_last : ℕ → Option ℕ → Bool
-is_last block None = false
-is_last block (Some failed) = block == failed
-
-abbrev pub ends_untaken : List Bool → Bool
-ends_untaken bits = not (seeks_address bits) && ((length bits % 10 == 0) && is_last (length bits / 10) (failed_block bits))
 
 -- a low drive, a width or a block says it
 abbrev pub is_said : Option ℕ → Listed → List Low → Bool

@@ -1,5 +1,5 @@
 -- The signal free time before a frame (CEC 9.1): the time since the start of the final bit of the frame before.
-use Rattle.std.specs.Prelude.{ℕ, ◌-◌, ◌==◌, Bool, true, false, not, nat_lt, nat_le, ◌&&◌, ◌||◌, if◌then◌else◌, List, [], ◌∷◌, length, Option, Some, None}
+use Rattle.std.specs.Prelude.{◌≡◌, ℕ, ◌-◌, ◌==◌, Bool, true, false, not, nat_lt, nat_le, ◌&&◌, ◌||◌, if◌then◌else◌, List, [], ◌∷◌, length, Option, Some, None}
 use Rattle.line_frames.specs.FreeTime.{free_time_of}
 use Rattle.line_frames.specs.declared.free_time.FreeTime.{FreeTime}
 use Rattle.line_frames.specs.declared.free_time.FreeTime.TheVariants.{Retry, NewInitiator, PresentInitiator}
@@ -11,8 +11,9 @@ use Rattle.audit_widths.specs.declared.low.Low.{Low}
 use Rattle.audit_remarks.specs.declared.free.EarlierSender.{EarlierSender}
 use Rattle.audit_remarks.specs.declared.free.EarlierSender.TheVariants.{Nothing, Somebody, Frame}
 use Rattle.audit_remarks.specs.declared.free.Previous.{Previous}
+use Rattle.audit_remarks.specs.declared.free.FreeTaken.{FreeTaken}
 use Rattle.audit_remarks.specs.declared.free.TooSoon.{TooSoon}
-use Rattle.audit_remarks.specs.Header.{initiator_of, is_delivered, seeks_address}
+use Rattle.audit_remarks.specs.Header.{initiator_of, is_delivered, seeks_address, stops_untaken}
 
 -- The initiator says who sends, but for a device that has no address, or looks for one.
 abbrev pub is_known : List Bool → Bool
@@ -43,10 +44,15 @@ is_bad_start _ = false
 abbrev pub no_previous : Previous
 no_previous = record { frame = Nothing; final_bit = 0; whole = false }
 
+-- it ended where it was to: what follows is no rest of it
+abbrev pub is_over : Ending → List Bool → Bool
+is_over ending bits = is_complete ending || stops_untaken ending bits
+
 -- a bad start is no frame (own)
 abbrev pub previous_with : Previous → Listed → List Low → Previous
 previous_with p x lows =
-    if is_bad_start x.reported.ending then p else record { frame = before_of x.reported.ending x.reported.bits; final_bit = final_bit x lows; whole = is_complete x.reported.ending }
+    if is_bad_start x.reported.ending then p
+    else record { frame = before_of x.reported.ending x.reported.bits; final_bit = final_bit x lows; whole = is_over x.reported.ending x.reported.bits }
 
 -- ---- the free time
 
@@ -72,3 +78,28 @@ abbrev pub too_soon : Previous → Listed → Bool → Option TooSoon
 too_soon p x again =
     if not (is_bad_start x.reported.ending) && nat_lt (free_before p x.begin) (free_due p.frame x.reported.bits again)
     then Some (record { free = free_before p x.begin; due = free_due p.frame x.reported.bits again }) else None
+
+-- ---- the same where it is long enough
+
+-- which time is due; before the first frame of a capture none is known
+abbrev pub time_due : EarlierSender → List Bool → Bool → Option FreeTime
+time_due Nothing bits again = None
+time_due Somebody bits again = Some Retry
+time_due (Frame initiator taken) bits again = if is_known bits then Some (due_after initiator taken (initiator_of bits) again) else Some Retry
+
+abbrev pub taken_by : ℕ → Option FreeTime → Option FreeTaken
+taken_by free None = None
+taken_by free (Some due) = Some (record { free = free; due = due })
+
+-- the free time before a reading
+abbrev pub free_taken : Previous → Listed → Bool → Option FreeTaken
+free_taken p x again = if is_bad_start x.reported.ending then None else taken_by (free_before p x.begin) (time_due p.frame x.reported.bits again)
+
+-- what of it is too soon
+abbrev pub soon_in : Option FreeTaken → Option TooSoon
+soon_in None = None
+soon_in (Some t) = if nat_lt t.free (free_time_of t.due) then Some (record { free = t.free; due = free_time_of t.due }) else None
+
+-- A frame comes too soon where its free time is shorter than the one that was due.
+abbrev pub FreeTimesAreDue : Type 0
+FreeTimesAreDue = (p : Previous) (x : Listed) (again : Bool) → soon_in (free_taken p x again) ≡ too_soon p x again

@@ -45,6 +45,19 @@ is_taken bits block = beq (bit_read bits (10 * block)) (is_to_all bits)
 abbrev pub failed_block : List Bool → Option ℕ
 failed_block bits = first_in (λ block. not (is_taken bits block)) 1 (length bits / 10)
 
+-- Its last block was not taken, and what polls its own address is not to be.
+abbrev pub is_last : ℕ → Option ℕ → Bool
+is_last block None = false
+is_last block (Some failed) = block == failed
+
+abbrev pub ends_untaken : List Bool → Bool
+ends_untaken bits = not (seeks_address bits) && ((length bits % 10 == 0) && is_last (length bits / 10) (failed_block bits))
+
+-- and no bit follows it: its initiator stops there, as it has to (CEC 7.1)
+abbrev pub stops_untaken : Ending → List Bool → Bool
+stops_untaken Silent bits = ends_untaken bits
+stops_untaken _ bits = false
+
 -- the frame was read whole and taken
 abbrev pub is_delivered : Ending → List Bool → Bool
 is_delivered ending bits = is_complete ending && is_none (failed_block bits)

@@ -1,10 +1,12 @@
 -- Requests and what answers them (CEC 13, the messages of each feature; CEC 9.2: an answer comes within a second of the
 -- request; CEC 12.3: a device may answer a direct message by Feature Abort, and answers so Abort and what it does not know).
+-- An answer comes with its first attempt, acknowledged or not: whether the asker takes it is not up to who answers (own).
 use Rattle.std.specs.Prelude.{ℕ, ◌-◌, ◌==◌, Bool, false, not, nat_le, nat_lt, is_none, is_some, ◌&&◌, ◌||◌, if◌then◌else◌, List, [], ◌∷◌, ◌++◌, length, slice_index, Option, Some, None}
 use Rattle.message_table.specs.Table.{name_of}
 use Rattle.audit_widths.specs.Spreads.{sum_of}
 use Rattle.audit_remarks.specs.declared.requests.Request.{Request}
 use Rattle.audit_remarks.specs.Frames.{opcode_of, receiver, sender}
+use Rattle.audit_remarks.specs.Messages.{missed_receivers, missing_operands}
 
 -- The message that answers one: names, addresses, vendors, versions, languages, states of power, audio and menus.
 abbrev pub answer_to : ℕ → Option ℕ
@@ -37,9 +39,14 @@ request_by frame since answer =
     if is_some answer || is_to_refuse (opcode_of frame)
     then Some (record { initiator = sender frame; destination = receiver frame; opcode = opcode_of frame; answer = answer; since = since }) else None
 
+-- it comes to others than it is for, or lacks operands: no answer is owed (own)
+abbrev pub has_fault : List ℕ → Bool
+has_fault frame = is_some (missed_receivers frame) || is_some (missing_operands frame)
+
 abbrev pub request_of : List ℕ → ℕ → Option Request
 request_of frame since =
-    if nat_lt (length frame) 2 || ((receiver frame == 15) || (sender frame == 15)) then None else request_by frame since (answer_to (opcode_of frame))
+    if (nat_lt (length frame) 2 || ((receiver frame == 15) || (sender frame == 15))) || has_fault frame then None
+    else request_by frame since (answer_to (opcode_of frame))
 
 -- to the asker or to all
 abbrev pub reaches : List ℕ → Request → Bool
@@ -53,9 +60,15 @@ abbrev pub is_opcode : ℕ → Option ℕ → Bool
 is_opcode opcode None = false
 is_opcode opcode (Some answer) = opcode == answer
 
--- A frame answers a request where it comes from whom the request was for, and is the answer or a refusal.
-abbrev pub is_answer : List ℕ → Request → Bool
-is_answer frame r = not (nat_lt (length frame) 2) && ((sender frame == r.destination) && ((is_opcode (opcode_of frame) r.answer && reaches frame r) || refuses frame r))
+-- more than five seconds after the request, when nothing answers it any more (own)
+abbrev pub is_past : ℕ → Request → Bool
+is_past begin r = nat_lt (sum_of r.since 5000000) begin
+
+-- A frame answers a request where its first attempt begins by then, it comes from whom the request was for, and is the answer or a
+-- refusal.
+abbrev pub is_answer : ℕ → List ℕ → Request → Bool
+is_answer begin frame r =
+    not (is_past begin r || nat_lt (length frame) 2) && ((sender frame == r.destination) && ((is_opcode (opcode_of frame) r.answer && reaches frame r) || refuses frame r))
 
 -- more than a second after the request
 abbrev pub is_late : ℕ → Request → Bool
@@ -69,25 +82,25 @@ abbrev pub asks_again : List ℕ → Request → Bool
 asks_again frame r = not (nat_lt (length frame) 2) && ((sender frame == r.initiator) && ((receiver frame == r.destination) && (opcode_of frame == r.opcode)))
 
 abbrev pub is_given_up : ℕ → List ℕ → Request → Bool
-is_given_up begin frame r = nat_lt (sum_of r.since 5000000) begin || (is_late begin r && asks_again frame r)
+is_given_up begin frame r = is_past begin r || (is_late begin r && asks_again frame r)
 
 -- ---- the requests that wait for an answer
 
 abbrev pub unless_over : Bool → Request → List Request
 unless_over over r = if over then [] else r ∷ []
 
--- after a reading that begins then, by the frame that it delivered
-abbrev pub is_over : ℕ → List ℕ → Request → Bool
-is_over begin frame r = is_answer frame r || is_given_up begin frame r
+-- after a reading that begins then, by the frame that it delivered, and by the one that was sent, whose first attempt began at `first`
+abbrev pub is_over : ℕ → List ℕ → ℕ → List ℕ → Request → Bool
+is_over first sent begin frame r = is_answer first sent r || is_given_up begin frame r
 
-abbrev pub left_waiting : ℕ → List ℕ → List Request → List Request
-left_waiting begin frame [] = []
-left_waiting begin frame (r ∷ rs) = unless_over (is_over begin frame r) r ++ left_waiting begin frame rs
+abbrev pub left_waiting : ℕ → List ℕ → ℕ → List ℕ → List Request → List Request
+left_waiting first sent begin frame [] = []
+left_waiting first sent begin frame (r ∷ rs) = unless_over (is_over first sent begin frame r) r ++ left_waiting first sent begin frame rs
 
 -- and with the request that it is; at most 16 are kept (own)
 abbrev pub with_request : Option Request → List Request → List Request
 with_request None waiting = waiting
 with_request (Some r) waiting = if nat_lt (length waiting) 16 then waiting ++ r ∷ [] else waiting
 
-abbrev pub after_frame : ℕ → ℕ → List ℕ → List Request → List Request
-after_frame begin at frame waiting = with_request (request_of frame at) (left_waiting begin frame waiting)
+abbrev pub after_frame : ℕ → List ℕ → ℕ → ℕ → List ℕ → List Request → List Request
+after_frame first sent begin at frame waiting = with_request (request_of frame at) (left_waiting first sent begin frame waiting)

@@ -1,7 +1,7 @@
 //! Retransmission: attempts at a frame (CEC 7.1).
 ghost use Rattle.std.specs.Prelude.{◌≡◌, ◌+◌, ◌<◌, ◌≤◌, length};
 ghost use Rattle.line_reading.specs.Reports.{listed_as};
-ghost use Rattle.audit_remarks.specs.Attempts.{after_attempt, attempt_after, attempt_of, failure_of, is_untaken, no_attempts, repeats, same_from, since_with, tries_again};
+ghost use Rattle.audit_remarks.specs.Attempts.{after_attempt, attempt_after, attempt_of, failure_of, first_after, first_of, is_untaken, no_attempts, repeats, same_from, since_with, tries_again};
 
 use crate::free::is_bad_start;
 use crate::header::{
@@ -10,13 +10,15 @@ use crate::header::{
 use arrayvec::ArrayVec;
 use line_frames::{FreeTime, Reading};
 
-/// The last frame of an initiator: where it began, its bits, whether it was taken, and which attempt it was.
+/// The last frame of an initiator: where it began, its bits, whether it was taken, which attempt it was, and where the first
+/// one began.
 #[derive(Debug, Drop)]
 pub struct LastFrame {
     begin: u64,
     bits: ArrayVec<bool, 160>,
     taken: bool,
     attempt: u64,
+    first: u64,
 }
 
 /// The last frame of each initiator.
@@ -69,6 +71,21 @@ fn attempt_after(since: u64, bits: &[bool], last: &Option<LastFrame>) -> u64
                 earlier.attempt.saturating_add(1)
             } else {
                 1
+            }
+        }
+    }
+}
+
+fn first_after(since: u64, begin: u64, bits: &[bool], last: &Option<LastFrame>) -> u64
+    ensures { result ≡ first_after since begin bits.now last.now }
+{
+    match last {
+        None => begin,
+        Some(earlier) => {
+            if !earlier.taken && since <= earlier.begin && repeats(&earlier.bits, bits) {
+                earlier.first
+            } else {
+                begin
             }
         }
     }
@@ -127,6 +144,18 @@ impl Attempts {
         )
     }
 
+    /// Where the first attempt began, of a reading that begins then, after the line was free for so long.
+    pub fn first_of(&self, begin: u64, free: u64, bits: &[bool]) -> u64
+        ensures { result ≡ first_of self.now begin free bits.now }
+    {
+        first_after(
+            self.since_with(begin, free),
+            begin,
+            bits,
+            &self.last[initiator_of(bits) as usize],
+        )
+    }
+
     /// Whether the last frame of a reading's initiator was not taken, so that it may try again.
     pub fn tries_again(&self, bits: &[bool]) -> bool
         ensures { result ≡ tries_again self.now bits.now }
@@ -160,6 +189,7 @@ impl Attempts {
             return;
         }
         let attempt = self.attempt_of(reading.begin, free, &reading.bits);
+        let first = self.first_of(reading.begin, free, &reading.bits);
         self.since = self.since_with(reading.begin, free);
         if reading.bits.len() < HEADER || seeks_address(&reading.bits) {
             return;
@@ -169,6 +199,7 @@ impl Attempts {
             bits: copied(&reading.bits),
             taken: is_delivered(reading.ending, &reading.bits),
             attempt,
+            first,
         });
     }
 }

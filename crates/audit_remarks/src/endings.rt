@@ -1,10 +1,10 @@
 //! What is said of how a reading ends, where no width, no low drive and no block says it (CEC 6.1, 7.2).
 ghost use Rattle.std.specs.Prelude.{◌≡◌, ◌+◌, ◌-◌, ◌<◌, ◌≤◌, length, false, slice_index_or};
 ghost use Rattle.line_reading.specs.Reports.{listed_as};
-ghost use Rattle.audit_remarks.specs.Endings.{begun_blocks, ending_of, ends_low, ends_untaken, goes_on_after, goes_on_by, initiator_read, is_behind, is_bit, is_last, is_measured, is_said, is_stray, last_says, lone_of, may_have_lost, measured_of, party_of, stops_of, unmeasured_of, unsaid_of, width_of, width_says};
+ghost use Rattle.audit_remarks.specs.Endings.{begun_blocks, ending_of, ends_low, goes_on_after, goes_on_by, initiator_read, is_behind, is_bit, is_measured, is_said, is_stray, last_says, lone_of, may_have_lost, measured_of, party_of, stops_of, unmeasured_of, unsaid_of, width_of, width_says};
 
 use crate::free::{Previous, is_bad_start};
-use crate::header::{BLOCK, bit_at, failed_block, initiator_of, seeks_address, unfinished};
+use crate::header::{BLOCK, bit_at, ends_untaken, failed_block, initiator_of, unfinished};
 use crate::series::BadStartSeries;
 use audit_judged::{Cause, EndingRemark, Party, Said};
 use audit_pieces::LONG_FROM;
@@ -80,24 +80,6 @@ pub fn last_says(ending: Ending, bits: &[bool], slot: u64, lows: &[Low]) -> bool
         return width_says(ending, bits, slot, *low);
     }
     last_says(ending, bits, slot + 1, lows)
-}
-
-fn is_last(block: usize, failed: Option<usize>) -> bool
-    ensures { result ≡ is_last block failed }
-{
-    match failed {
-        None => false,
-        Some(failed) => block == failed,
-    }
-}
-
-fn ends_untaken(bits: &[bool]) -> bool
-    requires { length bits.now ≤ 160 }
-    ensures { result ≡ ends_untaken bits.now }
-{
-    !seeks_address(bits)
-        && bits.len() % BLOCK == 0
-        && is_last(bits.len() / BLOCK, failed_block(bits))
 }
 
 // Whether a low drive, a width or a block says why a reading ended.

@@ -2,9 +2,11 @@
 ghost use Rattle.std.specs.Prelude.{◌≡◌, ◌≤◌, length};
 ghost use Rattle.line_reading.specs.Reports.{listed_as};
 ghost use Rattle.audit_remarks.specs.Endings.{is_nothing};
-ghost use Rattle.audit_remarks.specs.Free.{before_of, due_after, final_bit, final_by, free_before, free_due, is_bad_start, is_known, last_fall, no_previous, previous_with, too_soon};
+ghost use Rattle.audit_remarks.specs.Free.{before_of, due_after, final_bit, final_by, free_before, free_due, free_taken, is_bad_start, is_known, is_over, last_fall, no_previous, previous_with, taken_by, time_due, too_soon};
 
-use crate::header::{HEADER, initiator_of, is_complete, is_delivered, seeks_address};
+use crate::header::{
+    HEADER, initiator_of, is_complete, is_delivered, seeks_address, stops_untaken,
+};
 use audit_widths::Low;
 use line_frames::{Addr, Ending, FreeTime, Reading};
 
@@ -25,7 +27,7 @@ pub struct Previous {
     frame: EarlierSender,
     // where its final bit began
     final_bit: u64,
-    // whether it was read whole
+    // whether it ended where it was to
     whole: bool,
 }
 
@@ -34,6 +36,13 @@ pub struct Previous {
 pub struct TooSoon {
     pub free: u64,
     pub due: u64,
+}
+
+/// The free time before a frame: how long the line was free, from the start of the final bit before it, and which time was due.
+#[derive(Clone, Copy, Debug, PartialEq, Eq)]
+pub struct FreeTaken {
+    pub free: u64,
+    pub due: FreeTime,
 }
 
 fn is_known(bits: &[bool]) -> bool
@@ -86,6 +95,14 @@ fn final_by(ending: Ending, at: u64, last: u64) -> u64
     }
 }
 
+// Whether a frame ended where it was to: what follows is no rest of it.
+fn is_over(ending: Ending, bits: &[bool]) -> bool
+    requires { length bits.now ≤ 160 }
+    ensures { result ≡ is_over ending bits.now }
+{
+    is_complete(ending) || stops_untaken(ending, bits)
+}
+
 fn final_bit(reading: &Reading, lows: &[Low]) -> u64
     ensures { result ≡ final_bit (listed_as reading.now) lows.now }
 {
@@ -108,6 +125,21 @@ impl EarlierSender {
         }
     }
 
+    fn time_due(self, bits: &[bool], again: bool) -> Option<FreeTime>
+        ensures { result ≡ time_due self bits.now again }
+    {
+        match self {
+            EarlierSender::Nothing => None,
+            EarlierSender::Somebody => Some(FreeTime::Retry),
+            EarlierSender::Frame(initiator, taken) => {
+                if !is_known(bits) {
+                    return Some(FreeTime::Retry);
+                }
+                Some(due_after(initiator, taken, initiator_of(bits), again))
+            }
+        }
+    }
+
     fn of(ending: Ending, bits: &[bool]) -> Self
         requires { length bits.now ≤ 160 }
         ensures { result ≡ before_of ending bits.now }
@@ -117,6 +149,15 @@ impl EarlierSender {
         } else {
             EarlierSender::Somebody
         }
+    }
+}
+
+fn taken_by(free: u64, due: Option<FreeTime>) -> Option<FreeTaken>
+    ensures { result ≡ taken_by free due }
+{
+    match due {
+        None => None,
+        Some(due) => Some(FreeTaken { free, due }),
     }
 }
 
@@ -142,7 +183,7 @@ impl Previous {
         }
     }
 
-    /// Whether it was read whole.
+    /// Whether it ended where it was to.
     pub(crate) fn is_whole(self) -> bool
         ensures { result ≡ self.whole }
     {
@@ -168,6 +209,17 @@ impl Previous {
         Some(TooSoon { free, due })
     }
 
+    /// The free time before a reading, also where it was long enough. Of a bad start, and where no frame was before it, there is none.
+    pub fn taken(self, reading: &Reading, again: bool) -> Option<FreeTaken>
+        ensures { result ≡ free_taken self (listed_as reading.now) again }
+    {
+        if is_bad_start(reading.ending) {
+            return None;
+        }
+        let due = self.frame.time_due(&reading.bits, again);
+        taken_by(self.free_before(reading.begin), due)
+    }
+
     /// What a reading of these low stretches leaves for the next one.
     pub fn with(self, reading: &Reading, lows: &[Low]) -> Self
         ensures { result ≡ previous_with self (listed_as reading.now) lows.now }
@@ -178,7 +230,7 @@ impl Previous {
         Previous {
             frame: EarlierSender::of(reading.ending, &reading.bits),
             final_bit: final_bit(reading, lows),
-            whole: is_complete(reading.ending),
+            whole: is_over(reading.ending, &reading.bits),
         }
     }
 }

@@ -2,7 +2,7 @@
 ghost use Rattle.std.specs.Prelude.{◌≡◌, ◌+◌, ◌*◌, ◌<◌, ◌≤◌, length, false, slice_index_or};
 ghost use Rattle.line_frames.specs.Blocks.{bit_value};
 ghost use Rattle.message_text.specs.ReadingText.{is_complete};
-ghost use Rattle.audit_remarks.specs.Header.{breaks_off, destination_of, failed_block, goes_on, head_of, head_read, initiator_of, is_delivered, is_poll, is_taken, is_to_all, is_unfinished, nibble_at, opcode_read, seeks_address, unfinished};
+ghost use Rattle.audit_remarks.specs.Header.{breaks_off, destination_of, ends_untaken, failed_block, goes_on, head_of, head_read, initiator_of, is_delivered, is_last, is_poll, is_taken, is_to_all, is_unfinished, nibble_at, opcode_read, seeks_address, stops_untaken, unfinished};
 
 use line_frames::{Addr, Ending};
 
@@ -45,14 +45,16 @@ fn nibble_at(bits: &[bool], k: usize) -> u8
         + weighed(1, bit_at(bits, k + 3))
 }
 
-pub(crate) fn initiator_of(bits: &[bool]) -> u8
+/// The initiator of a header. A bit that was not read counts as 0 (CEC 6.1.1).
+pub fn initiator_of(bits: &[bool]) -> u8
     ensures value { result ≡ initiator_of bits.now }
     ensures small { result < 16 }
 {
     nibble_at(bits, 0)
 }
 
-pub(crate) fn destination_of(bits: &[bool]) -> u8
+/// The destination of a header, in the same way (CEC 6.1.1).
+pub fn destination_of(bits: &[bool]) -> u8
     ensures value { result ≡ destination_of bits.now }
     ensures small { result < 16 }
 {
@@ -80,7 +82,7 @@ pub(crate) fn is_poll(bits: &[bool]) -> bool
 }
 
 /// Whether it polls its own address (CEC 10.2.1).
-pub(crate) fn seeks_address(bits: &[bool]) -> bool
+pub fn seeks_address(bits: &[bool]) -> bool
     ensures { result ≡ seeks_address bits.now }
 {
     let initiator = initiator_of(bits);
@@ -124,6 +126,36 @@ pub(crate) fn is_delivered(ending: Ending, bits: &[bool]) -> bool
     ensures { result ≡ is_delivered ending bits.now }
 {
     is_complete(ending) && failed_block(bits).is_none()
+}
+
+fn is_last(block: usize, failed: Option<usize>) -> bool
+    ensures { result ≡ is_last block failed }
+{
+    match failed {
+        None => false,
+        Some(failed) => block == failed,
+    }
+}
+
+/// Whether the last block of these bits was not taken.
+pub(crate) fn ends_untaken(bits: &[bool]) -> bool
+    requires { length bits.now ≤ 160 }
+    ensures { result ≡ ends_untaken bits.now }
+{
+    !seeks_address(bits)
+        && bits.len() % BLOCK == 0
+        && is_last(bits.len() / BLOCK, failed_block(bits))
+}
+
+/// Whether a frame stops with a block that was not taken, as it has to (CEC 7.1).
+pub fn stops_untaken(ending: Ending, bits: &[bool]) -> bool
+    requires { length bits.now ≤ 160 }
+    ensures { result ≡ stops_untaken ending bits.now }
+{
+    match ending {
+        Ending::Silent => ends_untaken(bits),
+        Ending::Complete | Ending::Short | Ending::BadStart | Ending::Long | Ending::Open => false,
+    }
 }
 
 fn breaks_off(ending: Ending) -> bool

@@ -9,6 +9,7 @@ mod endings;
 mod frames;
 mod free;
 mod header;
+mod laws;
 mod messages;
 mod places;
 mod requests;
@@ -20,9 +21,12 @@ pub use counts::{Counts, FrameCount, count_reading, no_counts};
 pub use endings::{
     ending_of, goes_on_after, initiator_read, is_measured, is_stray, last_says, party_of,
 };
-pub use frames::{delivered_frame, sender};
-pub use free::{Previous, TooSoon, is_bad_start};
-pub use header::{FrameHead, head_read, unfinished};
+pub use frames::{delivered_frame, sender, sent_frame};
+pub use free::{FreeTaken, Previous, TooSoon, is_bad_start};
+pub use header::{
+    FrameHead, destination_of, head_read, initiator_of, seeks_address, stops_untaken, unfinished,
+};
+pub use laws::free_times_are_due;
 pub use messages::{Missing, Receivers, missed_receivers, missing_operands};
 pub use places::{Places, moved_from, no_places, note_report};
 pub use requests::{Request, WAITING, Waiting, after_frame};

@@ -1,9 +1,10 @@
 //! Requests that wait for an answer.
 ghost use Rattle.std.specs.Prelude.{◌≡◌, ◌+◌, ◌≤◌, ◌<◌, ◌++◌, length};
 ghost use Rattle.audit_remarks.specs.Frames.{opcode_of, receiver, sender};
-ghost use Rattle.audit_remarks.specs.Requests.{after_frame, answer_to, asks_again, is_answer, is_given_up, is_late, is_later, is_opcode, is_over, is_to_refuse, left_waiting, reaches, refuses, request_of, unless_over, waited, with_request};
+ghost use Rattle.audit_remarks.specs.Requests.{after_frame, answer_to, asks_again, has_fault, is_answer, is_given_up, is_late, is_later, is_opcode, is_over, is_past, is_to_refuse, left_waiting, reaches, refuses, request_of, unless_over, waited, with_request};
 
 use crate::frames::{opcode_of, receiver, sender};
+use crate::messages::{missed_receivers, missing_operands};
 use arrayvec::ArrayVec;
 use line_frames::Addr;
 use message_table::name;
@@ -74,13 +75,22 @@ fn is_to_refuse(opcode: u8) -> bool
     }
 }
 
+// Whether it comes to others than it is for, or lacks operands.
+fn has_fault(frame: &[u8]) -> bool
+    ensures { result ≡ has_fault frame.now }
+{
+    missed_receivers(frame).is_some() || missing_operands(frame).is_some()
+}
+
 // The request that a frame is, whose reading ended then.
 fn request_of(frame: &[u8], since: u64) -> Option<Request>
     ensures { result ≡ request_of frame.now since }
 {
     let initiator = sender(frame);
     let destination = receiver(frame);
-    if frame.len() < 2 || destination == Addr::BROADCAST || initiator == Addr::BROADCAST {
+    if (frame.len() < 2 || destination == Addr::BROADCAST || initiator == Addr::BROADCAST)
+        || has_fault(frame)
+    {
         return None;
     }
     let opcode = opcode_of(frame);
@@ -122,11 +132,18 @@ impl Request {
             && byte_at(frame, 2) == self.opcode
     }
 
-    /// Whether a frame answers it.
-    pub fn is_answer(self, frame: &[u8]) -> bool
-        ensures { result ≡ is_answer frame.now self }
+    // Whether more than five seconds have passed by an instant.
+    fn is_past(self, begin: u64) -> bool
+        ensures { result ≡ is_past begin self }
     {
-        if frame.len() < 2 || sender(frame) != self.destination {
+        self.since.saturating_add(PATIENCE) < begin
+    }
+
+    /// Whether a frame answers it, whose first attempt began then.
+    pub fn is_answer(self, begin: u64, frame: &[u8]) -> bool
+        ensures { result ≡ is_answer begin frame.now self }
+    {
+        if self.is_past(begin) || frame.len() < 2 || sender(frame) != self.destination {
             return false;
         }
         (is_opcode(opcode_of(frame), self.answer) && self.reaches(frame)) || self.refuses(frame)
@@ -159,14 +176,13 @@ impl Request {
     pub fn is_given_up(self, begin: u64, frame: &[u8]) -> bool
         ensures { result ≡ is_given_up begin frame.now self }
     {
-        self.since.saturating_add(PATIENCE) < begin
-            || (self.is_late(begin) && self.asks_again(frame))
+        self.is_past(begin) || (self.is_late(begin) && self.asks_again(frame))
     }
 
-    fn is_over(self, begin: u64, frame: &[u8]) -> bool
-        ensures { result ≡ is_over begin frame.now self }
+    fn is_over(self, first: u64, sent: &[u8], begin: u64, frame: &[u8]) -> bool
+        ensures { result ≡ is_over first sent.now begin frame.now self }
     {
-        self.is_answer(frame) || self.is_given_up(begin, frame)
+        self.is_answer(first, sent) || self.is_given_up(begin, frame)
     }
 }
 
@@ -180,15 +196,22 @@ fn push_unless(over: bool, request: Request, kept: &mut Waiting)
     kept.push(request);
 }
 
-fn push_waiting(begin: u64, frame: &[u8], waiting: &[Request], kept: &mut Waiting)
+fn push_waiting(
+    first: u64,
+    sent: &[u8],
+    begin: u64,
+    frame: &[u8],
+    waiting: &[Request],
+    kept: &mut Waiting,
+)
     requires { length kept.old.items + length waiting.now ≤ 16 }
-    ensures { kept.new.items ≡ kept.old.items ++ left_waiting begin frame.now waiting.now }
+    ensures { kept.new.items ≡ kept.old.items ++ left_waiting first sent.now begin frame.now waiting.now }
 {
     let [request, waiting @ ..] = waiting else {
         return;
     };
-    push_unless(request.is_over(begin, frame), *request, kept);
-    push_waiting(begin, frame, waiting, kept);
+    push_unless(request.is_over(first, sent, begin, frame), *request, kept);
+    push_waiting(first, sent, begin, frame, waiting, kept);
 }
 
 fn push_request(request: Option<Request>, waiting: &mut Waiting)
@@ -203,13 +226,21 @@ fn push_request(request: Option<Request>, waiting: &mut Waiting)
     waiting.push(request);
 }
 
-/// The requests that wait after a reading from `begin` to `at`, which delivered this frame, or none.
-pub fn after_frame(begin: u64, at: u64, frame: &[u8], waiting: &[Request]) -> Waiting
+/// The requests that wait after a reading from `begin` to `at`, which delivered this frame, or none, and of which that one was sent,
+/// with a first attempt at `first`.
+pub fn after_frame(
+    first: u64,
+    sent: &[u8],
+    begin: u64,
+    at: u64,
+    frame: &[u8],
+    waiting: &[Request],
+) -> Waiting
     requires { length waiting.now ≤ 16 }
-    ensures { result.items ≡ after_frame begin at frame.now waiting.now }
+    ensures { result.items ≡ after_frame first sent.now begin at frame.now waiting.now }
 {
     let mut kept = Waiting::new();
-    push_waiting(begin, frame, waiting, &mut kept);
+    push_waiting(first, sent, begin, frame, waiting, &mut kept);
     push_request(request_of(frame, at), &mut kept);
     kept
 }

@@ -1,5 +1,5 @@
 -- The file of a line is read back.
-use Rattle.std.proofs.Common.{◌≡◌, ℕ, zero, suc, ◌+◌, ◌-◌, ◌*◌, ◌/◌, ◌%◌, ◌<◌, ◌≤◌, ◌==◌, ◌||◌, not, Bool, true, false, if◌then◌else◌, cond, nat_lt, nat_le, List, [], ◌∷◌, ◌++◌, length, take, drop, slice_index, Option, Some, None, Result, Ok, Err, codes, refl, sym, ap, subst, ◌∙◌, arith, append-nil, append_assoc, length-append}
+use Rattle.std.proofs.Common.{◌≡◌, ℕ, zero, suc, ◌+◌, ◌-◌, ◌*◌, ◌/◌, ◌%◌, ◌<◌, ◌≤◌, ◌==◌, not, Bool, true, false, if◌then◌else◌, cond, nat_lt, nat_le, List, [], ◌∷◌, ◌++◌, length, take, drop, slice_index, Option, Some, None, Result, Ok, Err, codes, refl, sym, ap, subst, ◌∙◌, arith, append-nil, append_assoc, length-append}
 use Rattle.std.proofs.Math.Seq.{take-append_seam, drop-append-add}
 use Rattle.std.specs.Fmt.{decimal}
 use Rattle.std.specs.List.{list_all}
@@ -30,8 +30,14 @@ use Rattle.capture_core.specs.Reading.{at_word, lines_read, with_edges}
 use Rattle.capture_core.specs.declared.fault.Cause.{Cause}
 use Rattle.capture_core.proofs.Passing.{alone}
 use Rattle.capture_csv.specs.Clock.{cut_decimals}
-use Rattle.capture_csv.specs.Csv.{csv_form, edges_in, fields_of, level_by, moved_by, moved_to, nanos_by, nanos_of, named_read, row_by, row_in, row_of, signed_by, since, since_by, time_of, took, took_by, without_return, word_at_fault}
+use Rattle.capture_csv.specs.Csv.{csv_form, edges_in, fields_of, level_by, moved_by, moved_to, named_read, row_by, row_in, row_of, signed_by, since, since_by, time_of, took, took_by, without_return, word_at_fault}
+use Rattle.capture_csv.specs.Level.{low_by}
+use Rattle.capture_csv.specs.Unit.{nanos_by, nanos_of}
 use Rattle.capture_csv.specs.Text.{changes, head, row_line, row_text, stretch_text, CsvFilesAreReadBack}
+use Rattle.capture_csv.specs.declared.column.Column.{Column}
+use Rattle.capture_csv.specs.declared.column.TimeUnit.TheVariants.{Seconds}
+use Rattle.capture_csv.specs.declared.level.Said.{Said}
+use Rattle.capture_csv.specs.declared.level.Said.TheVariants.{Low, High}
 use Rattle.capture_csv.specs.declared.row.Time.{Time}
 use Rattle.capture_csv.specs.declared.reader.CsvReader.{CsvReader}
 
@@ -93,23 +99,28 @@ cut_again n low =
     ap (λ b. if b then decimals_of (nine_digits n) else None) (was_taken (list_all is_ascii_digit (nine_digits n)) (nine (nine_digits n)) (n * 1000) (decimals_again n low))
     ∙ decimals_again n low
 
-small_by : (whole below : ℕ) → whole ≤ 9999999999 → below ≤ 999999999 → (nat_lt 9999999999 whole || nat_lt 999999999 below) ≡ false
-small_by whole below h k = grind (arith, nat_tests)
+small_by : (most n : ℕ) → n ≤ most → nat_lt most n ≡ false
+small_by most n h = grind (arith, nat_tests)
 
-nanos_ok : (t : ℕ) → t ≤ 2000000000000 → nanos_of (seconds t) ≡ Some (nanos t)
+-- the column of the line
+abbrev written : Column
+written = record { place = 1; unit = Seconds }
+
+nanos_ok : (t : ℕ) → t ≤ 2000000000000 → nanos_of Seconds (seconds t) ≡ Some (nanos t)
 nanos_ok t low =
     let s = t / 1000000 in
     let n = t % 1000000 in
     let dot : dot_in (seconds t) ≡ length (decimal s) = dot_at (decimal s) (nine_digits n) (digits_lack (λ c. c == 46) (decimal s) (λ c d. no_byte 46 c d (omega arith)) (digits_of t low)) in
     let front : take (length (decimal s)) (seconds t) ≡ decimal s = take-append_seam (decimal s) (46 ∷ nine_digits n) in
     let back : drop (length (decimal s) + 1) (seconds t) ≡ nine_digits n = drop-append-add (decimal s) (46 ∷ nine_digits n) 1 in
-    let few : (nat_lt 9999999999 s || nat_lt 999999999 (n * 1000)) ≡ false = small_by s (n * 1000) (omega arith) (omega arith) in
-    ap (λ k. nanos_by (number_of (take k (seconds t))) (cut_decimals (drop (k + 1) (seconds t)))) dot
-    ∙ ap (λ l. nanos_by (number_of l) (cut_decimals (drop (length (decimal s) + 1) (seconds t)))) front
-    ∙ ap (λ l. nanos_by (number_of (decimal s)) (cut_decimals l)) back
-    ∙ ap (λ o. nanos_by o (cut_decimals (nine_digits n))) (number_again s (omega arith))
-    ∙ ap (nanos_by (Some s)) (cut_again n (omega arith))
-    ∙ rw few refl
+    let few : nat_lt 9999999999 s ≡ false = small_by 9999999999 s (omega arith) in
+    let part : nat_lt 999999999 (n * 1000) ≡ false = small_by 999999999 (n * 1000) (omega arith) in
+    ap (λ k. nanos_by Seconds (number_of (take k (seconds t))) (cut_decimals (drop (k + 1) (seconds t)))) dot
+    ∙ ap (λ l. nanos_by Seconds (number_of l) (cut_decimals (drop (length (decimal s) + 1) (seconds t)))) front
+    ∙ ap (λ l. nanos_by Seconds (number_of (decimal s)) (cut_decimals l)) back
+    ∙ ap (λ o. nanos_by Seconds o (cut_decimals (nine_digits n))) (number_again s (omega arith))
+    ∙ ap (nanos_by Seconds (Some s)) (cut_again n (omega arith))
+    ∙ rw (part, few) refl
 
 -- and are no time of the day
 no_letter : (c : ℕ) → digit_value c < 10 → (c == 84) ≡ false
@@ -130,31 +141,33 @@ none_at [] k h = refl
 none_at (x ∷ xs) zero h = h 0 x (omega arith)
 none_at (x ∷ xs) (suc k) h = none_at xs k (λ j d low. h (suc j) d (omega (arith, low)))
 
-time_ok : (t : ℕ) → t ≤ 2000000000000 → time_of (seconds t) ≡ Some (time_at t)
+time_ok : (t : ℕ) → t ≤ 2000000000000 → time_of Seconds (seconds t) ≡ Some (time_at t)
 time_ok t low =
     let plus : (slice_index (seconds t) 0 == 45) ≡ false = no_minus (decimal (t / 1000000)) (46 ∷ nine_digits (t % 1000000)) (decimal_nonempty (t / 1000000) (omega arith)) (digits_of t low) in
     rw (none_at (seconds t) 10 (letters_lack t low), plus) (ap (signed_by false) (nanos_ok t low))
 
 -- of a level
 record IsLevel (level : ℕ) (low : Bool) : Type 0 where
-  reported : level_by (Some (level ∷ [])) ≡ Some low
+  said : Said
+  reported : level_by (Some (level ∷ [])) ≡ Some said
+  so : (was : Bool) → low_by said was ≡ low
   alone : fields_of (level ∷ []) ≡ (level ∷ []) ∷ []
   plain : (level == 10) ≡ false
   last : (level == 13) ≡ false
 
 fall : IsLevel 48 true
-fall = record { reported = refl; alone = refl; plain = refl; last = refl }
+fall = record { said = Low; reported = refl; so = λ was. refl; alone = refl; plain = refl; last = refl }
 
 rise : IsLevel 49 false
-rise = record { reported = refl; alone = refl; plain = refl; last = refl }
+rise = record { said = High; reported = refl; so = λ was. refl; alone = refl; plain = refl; last = refl }
 
-row_ok : (t level : ℕ) (low : Bool) → t ≤ 2000000000000 → IsLevel level low → row_of 1 (row_line t level) ≡ Some (record { time = time_at t; low = low })
+row_ok : (t level : ℕ) (low : Bool) → t ≤ 2000000000000 → (l : IsLevel level low) → row_of written (row_line t level) ≡ Some (record { time = time_at t; said = l.said })
 row_ok t level low early is =
     let whole : without_return (row_line t level) ≡ seconds t ++ 44 ∷ level ∷ [] =
     ap without_return (row_last t level) ∙ no_return (seconds t ++ 44 ∷ []) level is.last ∙ sym (row_last t level) ∙ row_parts t level in
     let cut : fields_of (seconds t ++ 44 ∷ level ∷ []) ≡ seconds t ∷ (level ∷ []) ∷ [] =
     slice_split_at (λ b. b == 44) (seconds t) 44 (level ∷ []) (seconds_lack 44 t (omega arith) early) refl ∙ ap (λ fs. seconds t ∷ fs) is.alone in
-    ap (λ l. row_in 1 (fields_of l)) whole ∙ ap (row_in 1) cut ∙ ap (λ o. row_by o (level_by (Some (level ∷ [])))) (time_ok t early) ∙ ap (row_by (Some (time_at t))) is.reported
+    ap (λ l. row_in written (fields_of l)) whole ∙ ap (row_in written) cut ∙ ap (λ o. row_by o (level_by (Some (level ∷ [])))) (time_ok t early) ∙ ap (row_by (Some (time_at t))) is.reported
 
 row_plain : (t level : ℕ) (low : Bool) → t ≤ 2000000000000 → IsLevel level low → Lacks (λ c. c == 10) (row_line t level)
 row_plain t level low early is =
@@ -167,7 +180,7 @@ abbrev from_zero : Time
 from_zero = record { is_below = false; nanos = 0 }
 
 abbrev stood : Bool → ℕ → Bool → Bool → CsvReader
-stood is_again at was_low is_low = record { column = 1; first = Some from_zero; is_again = is_again; is_low = is_low; track = track_at at was_low is_low }
+stood is_again at was_low is_low = record { column = written; first = Some from_zero; is_again = is_again; is_low = is_low; track = track_at at was_low is_low }
 
 since_ok : (t : ℕ) → since from_zero (time_at t) ≡ Some (nanos t)
 since_ok t = let l : nat_le 0 (nanos t) ≡ true = grind (arith, nat_tests) in rw l (ap Some (let x : nanos t - 0 ≡ nanos t = omega arith in x))
@@ -183,6 +196,7 @@ row_taken : (t level : ℕ) (low : Bool) (again : Bool) (at : ℕ) (was is : Boo
     → took (row_line t level) (stood again at was is) ≡ moved_to from_zero (Some t) low (stood again at was is)
 row_taken t level low again at was is early l =
     ap (λ o. took_by o (stood again at was is)) (row_ok t level low early l)
+    ∙ ap (λ b. since_by from_zero (since from_zero (time_at t)) b (stood again at was is)) (l.so is)
     ∙ ap (λ o. since_by from_zero o low (stood again at was is)) (since_ok t)
     ∙ ap (λ o. moved_to from_zero o low (stood again at was is)) (instant_ok t early)
 
@@ -193,7 +207,7 @@ reported_line : (number t level : ℕ) (low : Bool) (more : List ℕ) (again : B
 reported_line number t level low more again at was is u edge early l move =
     ap (λ lines. lines_read csv_form number lines (stood again at was is)) (line_before (row_line t level) more (row_plain t level low early l))
     ∙ alone csv_form number (row_line t level) (lines_of more) (stood again at was is) (record { state = u; edge = edge }) (slice_split_none (λ b. false) (row_line t level) (λ k d h. refl))
-    (ap (at_word (word_at_fault 1 (row_line t level))) (row_taken t level low again at was is early l ∙ move))
+    (ap (at_word (word_at_fault written (row_line t level))) (row_taken t level low again at was is early l ∙ move))
 
 -- ---- changes
 
@@ -280,7 +294,7 @@ head_read : (more : List ℕ) → edges_in [] (head ++ more) ≡ lines_read csv_
 head_read more =
     let rest = codes "0.000000000,1" ++ 10 ∷ more in
     ap (named_read []) (line_before (codes "Time [s],CEC") rest (shown (λ c. c == 10) (codes "Time [s],CEC") refl))
-    ∙ ap (λ lines. lines_read csv_form 2 lines (record { column = 1; first = None; is_again = true; is_low = false; track = track_at 0 false false }))
+    ∙ ap (λ lines. lines_read csv_form 2 lines (record { column = written; first = None; is_again = true; is_low = false; track = track_at 0 false false }))
     (line_before (codes "0.000000000,1") more (shown (λ c. c == 10) (codes "0.000000000,1") refl))
     ∙ same (lines_read csv_form 3 (lines_of more) (stood true 0 false false))
   where

@@ -17,7 +17,9 @@ use Rattle.capture_core.proofs.Recording.{moved_at, records_capture, records_end
 use Rattle.capture_core.specs.Reading.{Step, lines_read}
 use Rattle.capture_core.proofs.Passing.{onward, without_word}
 use Rattle.capture_csv.specs.Csv.{Stepped, csv_form, first_reader, column_of, column_read, edges_in, end_of, ends_after, with_row, moved_by, moved_to, named_read, or_first, row_of, since, since_by, took, took_by, word_at_fault}
+use Rattle.capture_csv.specs.Level.{low_by}
 use Rattle.capture_csv.specs.Sampling.{CsvFilesAreSampled, CsvLinesAreEarly, CsvLinesGoOn, end_by, level_reported, levels_of, rows_by, rows_in, rows_of}
+use Rattle.capture_csv.specs.declared.column.Column.{Column}
 use Rattle.capture_csv.specs.declared.row.Row.{Row}
 use Rattle.capture_csv.specs.declared.row.Time.{Time}
 use Rattle.capture_csv.specs.declared.reader.CsvReader.{CsvReader}
@@ -63,7 +65,7 @@ record Goes (old : CsvReader) (step : Step CsvReader) (first : Time) (l : Level)
 record GoesOn (old : CsvReader) (step : Step CsvReader) (row : Row) : Type 0 where
   nanos : ℕ
   reported : since (or_first old.first row.time) row.time ≡ Some nanos
-  goes : Goes old step (or_first old.first row.time) (record { since = nanos; low = row.low })
+  goes : Goes old step (or_first old.first row.time) (record { since = nanos; low = low_by row.said old.is_low })
 
 abbrev GoesBy : CsvReader → Stepped → Row → Type 0
 GoesBy old (Err c) row = Unit {0}
@@ -73,7 +75,7 @@ row_goes : (r : CsvReader) (row : Row) → GoesBy r (with_row row r) row
 row_goes r row = by (since (or_first r.first row.time) row.time) refl
   where
     moves : (nanos : ℕ) → since (or_first r.first row.time) row.time ≡ Some nanos → nanos ≤ 2000000000000000 → (o : Option Moved) → track_move (rounded nanos) r.track ≡ o
-        → GoesBy r (moved_by (or_first r.first row.time) o row.low r) row
+        → GoesBy r (moved_by (or_first r.first row.time) o (low_by row.said r.is_low) r) row
     moves nanos reported small None h = tt
     moves nanos reported small (Some m) h =
         let at = moved_at (rounded nanos) r.track m h in
@@ -88,17 +90,17 @@ row_goes r row = by (since (or_first r.first row.time) row.time) refl
             at = at;
             early = omega arith;
             more = λ edges samples end k.
-                records_moved (rounded nanos) r.track m edges (record { at = rounded nanos; low = row.low } ∷ samples) end h
-                (subst (λ n. Records m.track edges (record { at = n; low = row.low } ∷ samples) end) at (records_level m.track row.low edges samples end k));
+                records_moved (rounded nanos) r.track m edges (record { at = rounded nanos; low = low_by row.said r.is_low } ∷ samples) end h
+                (subst (λ n. Records m.track edges (record { at = n; low = low_by row.said r.is_low } ∷ samples) end) at (records_level m.track (low_by row.said r.is_low) edges samples end k));
           };
         }
 
     late : (nanos : ℕ) → since (or_first r.first row.time) row.time ≡ Some nanos → (c : Bool) → nat_lt 2000000000000000 nanos ≡ c
-        → GoesBy r (moved_to (or_first r.first row.time) (if c then None else Some (rounded nanos)) row.low r) row
+        → GoesBy r (moved_to (or_first r.first row.time) (if c then None else Some (rounded nanos)) (low_by row.said r.is_low) r) row
     late nanos reported true h = tt
     late nanos reported false h = moves nanos reported (grind (arith, nat_tests)) (track_move (rounded nanos) r.track) refl
 
-    by : (o : Option ℕ) → since (or_first r.first row.time) row.time ≡ o → GoesBy r (since_by (or_first r.first row.time) o row.low r) row
+    by : (o : Option ℕ) → since (or_first r.first row.time) row.time ≡ o → GoesBy r (since_by (or_first r.first row.time) o (low_by row.said r.is_low) r) row
     by None h = tt
     by (Some nanos) h = late nanos h (nat_lt 2000000000000000 nanos) refl
 
@@ -106,23 +108,25 @@ row_goes r row = by (since (or_first r.first row.time) row.time) refl
 
 -- what is read from a reader on, whose last row was at this time
 record Ran (r : CsvReader) (e : Captured) (time : ℕ) (rows : List Row) : Type 0 where
-  records : Records r.track e.edges (samples_of (levels_of r.first rows)) e.end
-  end : e.end ≡ end_by time r.is_low r.is_again (levels_of r.first rows)
+  records : Records r.track e.edges (samples_of (levels_of r.first r.is_low rows)) e.end
+  end : e.end ≡ end_by time r.is_low r.is_again (levels_of r.first r.is_low rows)
   early : e.end ≤ 2000000000000
 
 run_more : (r : CsvReader) (step : Step CsvReader) (e f : Captured) (time : ℕ) (row : Row) (rows : List Row) → (g : GoesOn r step row) → Ran step.state f g.nanos rows
     → e ≡ record { edges = option_to_list step.edge ++ f.edges; end = f.end } → Ran r e time (row ∷ rows)
 run_more r step e f time row rows g ran is =
     let first = or_first r.first row.time in
-    let l : Level = record { since = g.nanos; low = row.low } in
-    let levels : levels_of r.first (row ∷ rows) ≡ l ∷ levels_of (Some first) rows = ap (λ o. option_to_list (level_reported o row.low) ++ levels_of (Some first) rows) g.reported in
+    let low = low_by row.said r.is_low in
+    let l : Level = record { since = g.nanos; low = low } in
+    let levels : levels_of r.first r.is_low (row ∷ rows) ≡ l ∷ levels_of (Some first) low rows = ap (λ o. option_to_list (level_reported o low) ++ levels_of (Some first) low rows) g.reported in
     subst (λ (e : Captured). Ran r e time (row ∷ rows)) (sym is) (record {
       records = subst (λ (ls : List Level). Records r.track (option_to_list step.edge ++ f.edges) (samples_of ls) f.end) (sym levels)
-          (g.goes.more f.edges (samples_of (levels_of (Some first) rows)) f.end
-          (subst (λ o. Records step.state.track f.edges (samples_of (levels_of o rows)) f.end) g.goes.first_is ran.records));
-      end = ran.end ∙ ap (λ o. end_by g.nanos step.state.is_low step.state.is_again (levels_of o rows)) g.goes.first_is
-          ∙ ap (λ b. end_by g.nanos b step.state.is_again (levels_of (Some first) rows)) g.goes.is_low
-          ∙ ap (λ b. end_by g.nanos row.low b (levels_of (Some first) rows)) g.goes.is_again
+          (g.goes.more f.edges (samples_of (levels_of (Some first) low rows)) f.end
+          (subst (λ b. Records step.state.track f.edges (samples_of (levels_of (Some first) b rows)) f.end) g.goes.is_low
+          (subst (λ o. Records step.state.track f.edges (samples_of (levels_of o step.state.is_low rows)) f.end) g.goes.first_is ran.records)));
+      end = ran.end ∙ ap (λ o. end_by g.nanos step.state.is_low step.state.is_again (levels_of o step.state.is_low rows)) g.goes.first_is
+          ∙ ap (λ b. end_by g.nanos b step.state.is_again (levels_of (Some first) b rows)) g.goes.is_low
+          ∙ ap (λ b. end_by g.nanos low b (levels_of (Some first) low rows)) g.goes.is_again
           ∙ sym (ap (end_by time r.is_low r.is_again) levels);
       early = ran.early;
     })
@@ -154,18 +158,18 @@ lines_ran number (line ∷ lines) r e time at early h =
     by None o stepped ih = cc
     by (Some row) o stepped ih = row_on row o (subst (λ (st : Stepped). GoesBy r st row) stepped (row_goes r row)) ih
 
-column_ran : (o : Option ℕ) (lines : List (List ℕ)) (e : Captured) → column_read o lines ≡ Ok e → (column : ℕ) × Ran (first_reader column) e 0 (rows_by o lines)
+column_ran : (o : Option Column) (lines : List (List ℕ)) (e : Captured) → column_read o lines ≡ Ok e → (column : Column) × Ran (first_reader column) e 0 (rows_by o lines)
 column_ran None lines e h = cc
 column_ran (Some column) lines e h = (column, lines_ran 2 lines (first_reader column) e 0 refl (omega arith) h)
 
-named_ran : (signal : List ℕ) (lines : List (List ℕ)) (e : Captured) → named_read signal lines ≡ Ok e → (column : ℕ) × Ran (first_reader column) e 0 (rows_of signal lines)
+named_ran : (signal : List ℕ) (lines : List (List ℕ)) (e : Captured) → named_read signal lines ≡ Ok e → (column : Column) × Ran (first_reader column) e 0 (rows_of signal lines)
 named_ran signal [] e h = cc
 named_ran signal (line ∷ lines) e h = column_ran (column_of signal line) lines e h
 
 pub csv_files_are_sampled : CsvFilesAreSampled
 csv_files_are_sampled signal text e h =
     let ran = (named_ran signal (lines_of text) e h).1 in
-    let ls = levels_of None (rows_of signal (lines_of text)) in
+    let ls = levels_of None false (rows_of signal (lines_of text)) in
     record {
       line = λ u. records_line e.edges (samples_of ls) e.end ran.records u ∙ sampled_so false ls u;
       end = ran.end;

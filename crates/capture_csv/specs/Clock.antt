@@ -5,7 +5,7 @@ use Rattle.std.specs.Char.{is_ascii_digit}
 use Rattle.capture_core.specs.Seconds.{decimals_of}
 use Rattle.capture_csv.specs.declared.clock.Zone.{Zone}
 
--- decimals of seconds, in nanoseconds: those after the ninth are cut
+-- decimals of a unit, in billionths: those after the ninth are cut
 abbrev pub cut_decimals : List ℕ → Option ℕ
 cut_decimals text = if list_all is_ascii_digit text then decimals_of (take 9 text) else None
 

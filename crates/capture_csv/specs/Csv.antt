@@ -1,20 +1,26 @@
 -- Comma-separated values as Saleae's Logic exports them: a line of names, of which the first is that of the time, and then a
--- row a change: seconds with decimals, perhaps below zero, or the time of the day; and a level a channel.
-use Rattle.std.specs.Prelude.{◌≡◌, ℕ, suc, zero, ◌+◌, ◌-◌, ◌*◌, ◌==◌, ◌&&◌, ◌||◌, not, min, Bool, true, false, nat_lt, nat_le, if◌then◌else◌, List, [], ◌∷◌, length, take, drop, slice_index, codes, Option, Some, None, Result, Ok, Err}
+-- row a change: a number with decimals, perhaps below zero, in the unit that its name has, or the time of the day; and a level or
+-- a voltage a channel.
+use Rattle.std.specs.Prelude.{ℕ, suc, zero, ◌+◌, ◌-◌, ◌==◌, ◌&&◌, ◌||◌, not, min, Bool, true, false, nat_lt, nat_le, if◌then◌else◌, List, [], ◌∷◌, length, take, drop, slice_index, Option, Some, None, Result, Ok, Err}
 use Rattle.std.specs.Option.{is_none, is_some}
 use Rattle.std.specs.List.{slice_split}
 use Rattle.std.specs.Str.{bytes_eq}
 use Rattle.line_wave.specs.Bounds.{latest_instant}
 use Rattle.text_core.specs.Lines.{lines_of}
-use Rattle.text_core.specs.Number.{number_of}
 use Rattle.text_core.specs.declared.at.At.{At}
 use Rattle.capture_core.specs.Edges.{Captured}
-use Rattle.capture_core.specs.Seconds.{dot_in, instant_of}
+use Rattle.capture_core.specs.Seconds.{instant_of}
 use Rattle.capture_core.specs.Track.{Moved, first_track as line_begun, differ, track_move, with_level}
 use Rattle.capture_core.specs.Reading.{Form, Step, at_word, lines_read}
 use Rattle.capture_core.specs.declared.fault.Cause.{Cause}
 use Rattle.capture_core.specs.declared.fault.Cause.TheVariants as cause
-use Rattle.capture_csv.specs.Clock.{clock_fraction, clock_seconds, cut_decimals}
+use Rattle.capture_csv.specs.Clock.{clock_fraction, clock_seconds}
+use Rattle.capture_csv.specs.Level.{level_of, low_by}
+use Rattle.capture_csv.specs.Unit.{nanos_by, nanos_of, unit_of}
+use Rattle.capture_csv.specs.declared.column.Column.{Column}
+use Rattle.capture_csv.specs.declared.column.TimeUnit.{TimeUnit}
+use Rattle.capture_csv.specs.declared.column.TimeUnit.TheVariants.{Seconds}
+use Rattle.capture_csv.specs.declared.level.Said.{Said}
 use Rattle.capture_csv.specs.declared.row.Row.{Row}
 use Rattle.capture_csv.specs.declared.row.Time.{Time}
 use Rattle.capture_csv.specs.declared.reader.CsvReader.{CsvReader}
@@ -52,20 +58,22 @@ abbrev pub after_first : List (List ℕ) → List (List ℕ)
 after_first [] = []
 after_first (field ∷ fields) = fields
 
--- the column of the time is 0
-abbrev pub column_of : List ℕ → List ℕ → Option ℕ
-column_of signal line = column_from 1 signal (after_first (fields_of (without_return line)))
+abbrev pub first_of : List (List ℕ) → List ℕ
+first_of [] = []
+first_of (field ∷ fields) = field
+
+abbrev pub with_unit : TimeUnit → Option ℕ → Option Column
+with_unit unit None = None
+with_unit unit (Some place) = Some (record { place = place; unit = unit })
+
+-- the time stands at 0, and its name has the unit
+abbrev pub column_in : List ℕ → List (List ℕ) → Option Column
+column_in signal names = with_unit (unit_of (first_of names)) (column_from 1 signal (after_first names))
+
+abbrev pub column_of : List ℕ → List ℕ → Option Column
+column_of signal line = column_in signal (fields_of (without_return line))
 
 -- ---- a row
-
-abbrev pub nanos_by : Option ℕ → Option ℕ → Option ℕ
-nanos_by None nanos = None
-nanos_by (Some whole) None = None
-nanos_by (Some whole) (Some nanos) = if nat_lt 9999999999 whole || nat_lt 999999999 nanos then None else Some (whole * 1000000000 + nanos)
-
--- whole seconds of ten digits at most, and perhaps a dot and decimals, in nanoseconds
-abbrev pub nanos_of : List ℕ → Option ℕ
-nanos_of word = nanos_by (number_of (take (dot_in word) word)) (cut_decimals (drop (dot_in word + 1) word))
 
 abbrev pub signed_time : Bool → ℕ → Time
 signed_time is_minus nanos = record { is_below = is_minus && nat_lt 0 nanos; nanos = nanos }
@@ -74,40 +82,37 @@ abbrev pub signed_by : Bool → Option ℕ → Option Time
 signed_by is_minus None = None
 signed_by is_minus (Some nanos) = Some (signed_time is_minus nanos)
 
-abbrev pub seconds_of : List ℕ → Option Time
-seconds_of word = if slice_index word 0 == 45 then signed_by true (nanos_of (drop 1 word)) else signed_by false (nanos_of word)
+abbrev pub counted_of : TimeUnit → List ℕ → Option Time
+counted_of unit word = if slice_index word 0 == 45 then signed_by true (nanos_of unit (drop 1 word)) else signed_by false (nanos_of unit word)
 
 abbrev pub clock_of : List ℕ → Option Time
-clock_of word = signed_by false (nanos_by (clock_seconds word) (clock_fraction word))
+clock_of word = signed_by false (nanos_by Seconds (clock_seconds word) (clock_fraction word))
 
-abbrev pub time_by : Bool → List ℕ → Option Time
-time_by true word = clock_of word
-time_by false word = seconds_of word
+abbrev pub time_by : Bool → TimeUnit → List ℕ → Option Time
+time_by true unit word = clock_of word
+time_by false unit word = counted_of unit word
 
 -- a time of the day has the letter T after its date
-abbrev pub time_of : List ℕ → Option Time
-time_of word = time_by (slice_index word 10 == 84) word
+abbrev pub time_of : TimeUnit → List ℕ → Option Time
+time_of unit word = time_by (slice_index word 10 == 84) unit word
 
-abbrev pub level_of : List ℕ → Option Bool
-level_of field = if bytes_eq field (codes "0") then Some true else if bytes_eq field (codes "1") then Some false else None
-
-abbrev pub level_by : Option (List ℕ) → Option Bool
+abbrev pub level_by : Option (List ℕ) → Option Said
 level_by None = None
 level_by (Some field) = level_of (field_without_space field)
 
-abbrev pub row_by : Option Time → Option Bool → Option Row
-row_by None low = None
+abbrev pub row_by : Option Time → Option Said → Option Row
+row_by None said = None
 row_by (Some time) None = None
-row_by (Some time) (Some low) = Some (record { time = time; low = low })
+row_by (Some time) (Some said) = Some (record { time = time; said = said })
 
-abbrev pub time_in : List (List ℕ) → Option Time
-time_in [] = None
-time_in (word ∷ fields) = time_of word
+abbrev pub time_in : TimeUnit → List (List ℕ) → Option Time
+time_in unit [] = None
+time_in unit (word ∷ fields) = time_of unit word
 
-abbrev pub row_in : ℕ → List (List ℕ) → Option Row
-row_in column fields = row_by (time_in fields) (level_by (field_at column fields))
+abbrev pub row_in : Column → List (List ℕ) → Option Row
+row_in column fields = row_by (time_in column.unit fields) (level_by (field_at column.place fields))
 
-abbrev pub row_of : ℕ → List ℕ → Option Row
+abbrev pub row_of : Column → List ℕ → Option Row
 row_of column line = row_in column (fields_of (without_return line))
 
 -- ---- instants
@@ -127,7 +132,7 @@ since first time = apart first.is_below time.is_below first.nanos time.nanos
 
 -- ---- where a reader stands
 
-abbrev pub first_reader : ℕ → CsvReader
+abbrev pub first_reader : Column → CsvReader
 first_reader column = record { column = column; first = None; is_again = true; is_low = false; track = line_begun }
 
 abbrev pub Stepped : Type 0
@@ -155,7 +160,7 @@ or_first None time = time
 or_first (Some first) time = first
 
 abbrev pub with_row : Row → CsvReader → Stepped
-with_row row r = since_by (or_first r.first row.time) (since (or_first r.first row.time) row.time) row.low r
+with_row row r = since_by (or_first r.first row.time) (since (or_first r.first row.time) row.time) (low_by row.said r.is_low) r
 
 abbrev pub took_by : Option Row → CsvReader → Stepped
 took_by None r = Err cause.Word
@@ -174,10 +179,10 @@ abbrev pub end_of : CsvReader → ℕ
 end_of r = ends_after r.is_again r.track.at
 
 -- the word at fault of a row that is refused: its level, where that is none after a time, and else its time
-abbrev pub fault_in : ℕ → List (List ℕ) → ℕ
-fault_in column fields = if is_some (time_in fields) && is_none (level_by (field_at column fields)) then column else 0
+abbrev pub fault_in : Column → List (List ℕ) → ℕ
+fault_in column fields = if is_some (time_in column.unit fields) && is_none (level_by (field_at column.place fields)) then column.place else 0
 
-abbrev pub word_at_fault : ℕ → List ℕ → ℕ
+abbrev pub word_at_fault : Column → List ℕ → ℕ
 word_at_fault column line = fault_in column (fields_of (without_return line))
 
 -- a line is taken as it stands
@@ -193,7 +198,7 @@ csv_form = record {
 abbrev pub no_signal : At Cause
 no_signal = record { line = 1; cause = cause.Signal; word = 1 }
 
-abbrev pub column_read : Option ℕ → List (List ℕ) → Result Captured (At Cause)
+abbrev pub column_read : Option Column → List (List ℕ) → Result Captured (At Cause)
 column_read None lines = Err no_signal
 column_read (Some column) lines = lines_read csv_form 2 lines (first_reader column)
 

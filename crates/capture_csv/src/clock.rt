@@ -7,7 +7,7 @@ ghost use Rattle.capture_csv.specs.Clock.{begins_zone, clock_fraction, clock_sec
 use capture_core::decimals_in;
 use text_core::{after, before, byte_at};
 
-/// How many decimals of a second are read; those after them are cut.
+/// How many decimals are read; those after them are cut.
 const DECIMALS: usize = 9;
 
 /// Where the fraction of the seconds stands, or the zone.
@@ -35,7 +35,7 @@ fn all_digits(text: &[u8]) -> bool
     text.iter().all(|b| b.is_ascii_digit())
 }
 
-/// The nanoseconds of decimals of a second. Those after the ninth are cut.
+/// The billionths of decimals. Those after the ninth are cut.
 pub fn cut_decimals(text: &[u8]) -> Option<u64>
     ensures { result ≡ cut_decimals text.now }
 {

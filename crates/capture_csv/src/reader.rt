@@ -1,6 +1,8 @@
 //! A reader of rows.
 ghost use Rattle.std.specs.Prelude.{◌≡◌};
 
+use crate::column::Column;
+use crate::level::low_by;
 use crate::row::{Row, Time, row_of, since, word_at_fault};
 use capture_core::{Cause, TakesWords, Track, instant_of, no_gap};
 use line_wave::{Edge, LATEST_INSTANT};
@@ -12,8 +14,8 @@ const ENDS_AFTER: u64 = 10_000;
 /// A reader of the rows of a file.
 #[derive(Clone, Copy, Debug)]
 pub struct CsvReader {
-    /// The column of the wire; that of the time is 0.
-    column: usize,
+    /// The column of the wire.
+    column: Column,
     /// The time of the first row.
     first: Option<Time>,
     /// Whether the last row told the level again.
@@ -28,7 +30,7 @@ impl CsvReader {
     ghost use Rattle.capture_csv.specs.Csv.{first_reader, with_row, moved_to, took};
 
     /// A reader before the first row.
-    pub fn new(column: usize) -> Self
+    pub fn new(column: Column) -> Self
         ensures { result ≡ first_reader column }
     {
         CsvReader {
@@ -67,9 +69,10 @@ impl CsvReader {
             None => row.time,
             Some(first) => first,
         };
+        let low = low_by(row.said, self.is_low);
         match since(first, row.time) {
             None => Err(Cause::Order),
-            Some(since) => self.go_to(first, instant_of(since), row.low),
+            Some(since) => self.go_to(first, instant_of(since), low),
         }
     }
 

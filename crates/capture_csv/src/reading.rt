@@ -1,9 +1,9 @@
 //! From a file to the edges of a line.
 ghost use Rattle.std.specs.Prelude.{◌≡◌};
 ghost use Rattle.capture_core.specs.Reading.{Gives, GivesEdges};
-ghost use Rattle.capture_csv.specs.Csv.{column_of, edges_in};
+ghost use Rattle.capture_csv.specs.Csv.{edges_in};
 
-use crate::fields::{column_in, first_field, without_return};
+use crate::column::column_of;
 use crate::reader::CsvReader;
 use capture_core::{Capture, CaptureError, Cause, read_lines};
 use line_wave::Edge;
@@ -15,14 +15,6 @@ fn no_signal() -> CaptureError
     ensures { result ≡ CaptureError.Fault (record { line = 1; cause = Cause.Signal; word = 1 }) }
 {
     CaptureError::Fault(at_word(1, Cause::Signal).on_line(1))
-}
-
-/// The column of a signal, by the first line, which has the names; that of the time is 0. An empty name stands for the first after it.
-pub fn column_of(line: &[u8], signal: &[u8]) -> Option<usize>
-    ensures { result ≡ column_of signal.now line.now }
-{
-    let (_, fields) = first_field(without_return(line));
-    column_in(fields, signal)
 }
 
 // Reads the edges, and the end.
@@ -39,8 +31,8 @@ fn read_edges(alloc: Global, signal: &[u8], text: &[u8]) -> Result<(Vec<Edge>, u
 }
 
 /// Reads a file: the edges of the column of this name, or of the first one where the name is empty. Times are counted from
-/// the first row, and rounded up to whole microseconds; of several rows in one the last counts, and a level that is reported
-/// again is no edge. Before the first row the line counts as high. The capture ends with the last row where that reports the
+/// the first row, in the unit that the name of their column has, and rounded up to whole microseconds; of several rows in one the last counts, and a level that is reported
+/// again is no edge. A voltage between the thresholds leaves the level as it is. Before the first row the line counts as high. The capture ends with the last row where that reports the
 /// level again, and else 10,000 microseconds after it.
 ///
 /// # Errors

@@ -1,7 +1,7 @@
 //! Captures that are followed, over a reader that gives one line at each read and a writer that notes when it was written to.
 ghost use Rattle.line_reading.specs.Windows.{AreWindows};
 
-use follow_core::{FollowError, LineForm, Reception, follow};
+use follow_core::{FollowError, LineForm, ReadingView, Reception, follow};
 use line_reading::Windows;
 use record_core::Form;
 use std::cell::RefCell;
@@ -9,7 +9,8 @@ use std::io::{self, ErrorKind, Read, Write};
 use std::process::Abort;
 use text_core::{Buffered, Writes};
 
-/// `FORM:MARGIN TEXT => SAID END`; `csv-NAME` is the form with a name of the wire, `MARGIN~N` passes over pulses and gaps shorter than N,
+/// `FORM:MARGIN TEXT => SAID END`; `csv-NAME` is the form with a name of the wire, `FORM+idle` has one line for the readings before the
+/// line is first idle, `FORM+fold` one for bad starts in a row, `MARGIN~N` passes over pulses and gaps shorter than N,
 /// and `MARGIN!` reads levels the other way round. In a text `|` ends a line, and `START` is a comment that starts pin events at 100 s; `POLL` has
 /// the lines of the television's own poll from 12,000 on up to its last bit, whose fall is at 38,100, and `SLOTS` those after its
 /// start bit. `SAID` has `>` for each line
@@ -52,6 +53,8 @@ csv:0 Time [s],CEC|-1.000000000,1|-0.988,0|-0.9877,1|-0.9,1 => >>>>>12000 12300 
 csv:0 Time,CEC|2026-11-27T10:00:00.000000000+00:00,1|2026-11-27T10:00:00.012+00:00,0|2026-11-27T11:00:00.0123+01:00,1|2026-11-27T10:00:01Z,1 => >>>>>12000 12300 bad-start -| .
 # A wire by its name, the second of two.
 csv-CEC:0 Time [s],HPD, CEC|0.0,1,1|0.012,0,0|0.0123,1,1|0.02,1,1 => >>>>>12000 12300 bad-start -| .
+csv-CEC:0 Time (ms),HPD, CEC|0.0,High,High|12,Low,Low|12.3,High,High|20,High,High => >>>>>12000 12300 bad-start -| .
+csv:0 Time [ms],CEC|0,3.3|12,0.1|12.1,1.9|12.3,2.1|12.4,1.0|20,3.3 => >>>>>>12000 12300 bad-start -|> .
 csv:0 Time [s],HPD, CEC|0.0,1,1|0.012,1,0|0.0123,1,1|0.02,1,1 => >>>>> .
 # No such wire, or no names; rows at fault.
 csv-SDA:0 Time [s],CEC|0.0,1 => > line 1: signal
@@ -84,6 +87,32 @@ csv:0! Time [s],CEC|0.0,0|0.012,1|0.0123,0|0.013,0 => >>>>>12000 12300 bad-start
 # First they are turned, and then what is too short is passed over.
 edges:0~100! 0 0|12000 1|12300 0|12340 1|12700 0|40000 end => >>>>>>12000 12700 bad-start -| .
 edges:0~100! 50 0|12000 1|12300 0|40000 end => >>>>12000 12300 bad-start -| .
+# From where the line was high for 7,200: nothing before that instant is known, then one line for the readings that began before.
+edges+idle:0 1000 0|1600 1|3400 0|4000 1|30000 0|33000 1|40000 end => >>>>>0 11200 joined -|>30000 33000 bad-start -|> .
+edges+idle:0 7199 0|10199 1|40000 end => >>>0 17399 joined -| .
+pin+idle:0 START|100.001000000 0|100.001600000 1|100.008800000 1|100.008801000 3 => >>>>>0 8800 joined -| .
+csv+idle:0 Time [s],CEC|0.0,1|0.001,0|0.0016,1|0.03,0|0.033,1|0.04,1 => >>>>>0 8800 joined -|>>30000 33000 bad-start -| .
+# Where none is before the end, that line comes with the end.
+edges+idle:0 7199 0|10199 1|17000 end => >>>0 17000 joined -| .
+edges+idle:0! 12000 0|12300 1|40000 end => >>>0 40000 joined -| .
+# Without such readings there is no such line.
+edges+idle:0 12000 0|12300 1|40000 end => >>12000 12300 bad-start -|> .
+edges+idle:0! 0 0|12000 1|12300 0|40000 end => >>>12000 12300 bad-start -|> .
+edges+idle:0 40000 end => > .
+# Pulses that are passed over are none there.
+edges+idle:0~100 1000 0|1600 1|1650 0|1700 1|30000 0|33000 1|40000 end => >>>>>0 8900 joined -|>>30000 33000 bad-start -| .
+# Bad starts in a row wait until another reading is over, or for the end; one alone has its own line.
+edges+fold:0 1000 0|1400 1|20000 end => >>>1000 1400 bad-start -| .
+edges+fold:0 1000 0|1400 1|2000 0|2400 1|3000 0|3600 1|20000 end => >>>>>>>1000 3600 bad-starts 3| .
+edges+fold:0 1000 0|1400 1|2000 0|2400 1|21000 0|24700 1|25500 0|26100 1|30000 0|30400 1|31000 0|31400 1|40000 end => >>>>>>>>>1000 2400 bad-starts 2|21000 28251 silent 1|>>>>30000 31400 bad-starts 2| .
+pin+fold:0 START|100.012000000 0|100.012300000 1|100.013000000 0|100.013300000 1|100.014000000 1 => >>>>>>12000 13300 bad-starts 2| .
+csv+fold:0 Time [s],CEC|0.0,1|0.012,0|0.0123,1|0.02,1 => >>>>>12000 12300 bad-start -| .
+edges+fold:0 1000 0|1400 1|2000 0|2400 1|frob => >>>>> line 5: line
+# The line for the readings before the line is idle is none of them.
+edges+idle+fold:0 1000 0|1400 1|12000 0|12300 1|13000 0|13300 1|40000 end => >>>0 8600 joined -|>>>>12000 13300 bad-starts 2| .
+# A fault before it leaves nothing.
+edges+idle:0 1000 0|1600 1|frob|40000 end => >>> line 3: line
+edges+idle:0 1000 0|1600 1|30000 0|frob|40000 end => >>>0 8800 joined -|> line 4: line
 ";
 
 const START: &str = "# start_monotonic 100.000000000";
@@ -202,11 +231,21 @@ pub(crate) fn reception_of(rt: &(impl Abort + AllocGlobal), words: &str) -> Rece
     }
 }
 
+/// What is shown of readings, by the words after the form.
+fn view_of(words: &str) -> ReadingView {
+    ReadingView {
+        written: Form::Text,
+        from_idle: words.contains("idle"),
+        folds: words.contains("fold"),
+    }
+}
+
 /// What is said where a capture is followed, over a writer with so much room.
 fn said_of(
     rt: &(impl Abort + AllocGlobal),
     form: LineForm,
     signal: &[u8],
+    view: ReadingView,
     how: Reception,
     text: &[u8],
     room: usize,
@@ -219,7 +258,7 @@ fn said_of(
         said: &said,
     };
     let mut out = Buffered::new(Writes::new(Told { said: &said, room }));
-    let end = follow(form, signal, Form::Text, how, &mut driver, &mut out);
+    let end = follow(form, signal, view, how, &mut driver, &mut out);
     drop(out);
     drop(driver);
     with_end(rt, said.into_inner(), end_text(rt, &end))
@@ -242,11 +281,13 @@ fn check(rt: &(impl Abort + AllocGlobal), row: &str) {
     let (words, text) = asked.split_once(' ').unwrap_or((asked, ""));
     let (form, how) = words.split_once(':').expect(rt, "a form");
     let (form, signal) = form.split_once('-').unwrap_or((form, ""));
+    let (form, view) = form.split_once('+').unwrap_or((form, ""));
     let text = spelled(rt, text);
     let said = said_of(
         rt,
         form_of(form),
         signal.as_bytes(),
+        view_of(view),
         reception_of(rt, how),
         text.as_bytes(),
         usize::MAX,
@@ -267,12 +308,12 @@ fn readings_are_written_when_they_are_over(rt: HostRuntime) {
 fn a_writer_that_is_full_ends_it(rt: HostRuntime) {
     let text = b"12000 0\n12300 1\n40000 0\n40300 1\n50000 end\n";
     let how = reception_of(&rt, "0");
-    let said = said_of(&rt, LineForm::Edges, b"", how, text, 10);
+    let said = said_of(&rt, LineForm::Edges, b"", view_of(""), how, text, 10);
     assert!(&rt;
         said.as_str() == ">>12000 1230 write fault after 10 bytes",
         "{said}"
     );
-    let said = said_of(&rt, LineForm::Edges, b"", how, text, 30);
+    let said = said_of(&rt, LineForm::Edges, b"", view_of(""), how, text, 30);
     assert!(&rt;
         said.as_str() == ">>12000 12300 bad-start -|>>40000  write fault after 30 bytes",
         "{said}"

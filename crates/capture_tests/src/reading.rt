@@ -4,6 +4,7 @@ use audit_core::watch_from_idle;
 use capture_core::Capture;
 use capture_forms::{CaptureError, CaptureForm, read_capture};
 use capture_pin::lost_lines;
+use capture_scale::scale;
 use capture_smooth::smooth_edges;
 use std::process::Abort;
 use text_core::Writes;
@@ -38,7 +39,7 @@ fn capture_text(rt: &(impl Abort + AllocGlobal), capture: &Capture) -> String {
 /// The form of a word, or that of the text.
 fn form_of(word: &str, text: &str) -> CaptureForm {
     match word {
-        "edges" | "smooth" => CaptureForm::Edges,
+        "edges" | "smooth" | "scale" => CaptureForm::Edges,
         "vcd" => CaptureForm::Vcd,
         "pin" => CaptureForm::Pin,
         "csv" => CaptureForm::Csv,
@@ -51,6 +52,15 @@ fn smooth_text(rt: &(impl Abort + AllocGlobal), capture: &Capture, number: &str)
     let shortest = number.parse::<u64>().expect(rt, "a number");
     let left = smooth_edges(rt.alloc(), capture, shortest).expect(rt, "memory");
     capture_text(rt, &left)
+}
+
+/// A capture whose times are multiplied by so many ten-thousandths.
+fn scaled_text(rt: &(impl Abort + AllocGlobal), capture: &Capture, number: &str) -> String {
+    let factor = number.parse::<u64>().expect(rt, "a number");
+    match scale(rt.alloc(), capture, factor) {
+        Ok(scaled) => capture_text(rt, &scaled),
+        Err(error) => format!(in rt.alloc(); "{error}").expect(rt, "a fault"),
+    }
 }
 
 /// A fault, and after it the word at fault.
@@ -68,7 +78,7 @@ fn reported(rt: &(impl Abort + AllocGlobal), form: &str, signal: &str, text: &st
     let read = read_capture(
         rt.alloc(),
         form_of(form, text),
-        if form == "smooth" {
+        if form == "smooth" || form == "scale" {
             b"".as_slice()
         } else {
             signal.as_bytes()
@@ -77,6 +87,7 @@ fn reported(rt: &(impl Abort + AllocGlobal), form: &str, signal: &str, text: &st
     );
     match read {
         Ok(capture) if form == "smooth" => smooth_text(rt, &capture, signal),
+        Ok(capture) if form == "scale" => scaled_text(rt, &capture, signal),
         Ok(capture) => capture_text(rt, &capture),
         Err(error) => fault_text(rt, &error),
     }

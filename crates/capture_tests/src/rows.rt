@@ -2,8 +2,8 @@
 
 /// `FORM:SIGNAL TEXT => EDGES`. In a text `|` ends a line, `^` is a tab, `~` a carriage return, `HEAD` the definitions of a wire
 /// CEC, `PINS` the comments of a pin file that starts at 100 s. `12000f` is a fall, `15700r` a rise. `auto` goes by the first
-/// line, `smooth:N` leaves out what is shorter than N of an edge file, `lost` has the lines before which events were lost, and
-/// `idle` the readings of an edge file from idle on. A fault has the number of its word at fault after it, from 0.
+/// line, `smooth:N` leaves out what is shorter than N of an edge file, `scale:N` multiplies its times by N ten-thousandths, `lost` has
+/// the lines before which events were lost, and `idle` the readings of an edge file from idle on. A fault has the number of its word at fault after it, from 0.
 pub(crate) const ROWS: &str = "\
 # A wire that falls and rises; x and z are high, in either case; a start at low.
 vcd: HEAD|#0|1!|#12000|0!|#15700|1!|#20000 => 12000f 15700r end 20000
@@ -107,6 +107,66 @@ csv: Time,A|0,1|2000000.000001,0 => line 3: late 0
 auto: Time[s], Channel 0-CEC|0.000000000000000, 1|0.012000000000000, 0|0.015700000000000, 1 => 12000f 15700r end 25700
 csv: Time,A|0,1|0.0000010009999,0|0.0000020009999,1 => 1f 2r end 10002
 csv: Time,A|-0.0000000019,1|0.000000999,0 => 1f end 10001
+# The unit of the times stands in the name of their column, as Logic 2 (`[s]`), DSView (`(s)`) and WaveForms (a space and `(s)`) write it.
+auto: Time(s),CEC|0.000000000,1|0.012000000,0|0.015700000,1 => 12000f 15700r end 25700
+csv: Time (s),DIO 0|0,1|0.012,0|0.0157,1 => 12000f 15700r end 25700
+auto: Time [ms],CEC|0,1|12,0|15.7,1 => 12000f 15700r end 25700
+auto: Time(us),CEC|0,1|12000,0|15700.0,1 => 12000f 15700r end 25700
+auto: Time (ns),CEC|0,1|12000000,0|15700001,1 => 12000f 15701r end 25701
+csv:B Time[MS],A, B|0,1,1|12,1,0|15.7,0,1 => 12000f 15700r end 25700
+csv: \"Time [ms]\",\"CEC\"|0,1|12,0 => 12000f end 22000
+csv: Time [µs],A|0,1|12000,0 => 12000f end 22000
+csv: Time (μs),A|0,1|12000,0 => 12000f end 22000
+csv: Time [ms],A|-500,1|-499,0|0,1 => 1000f 500000r end 510000
+# Decimals are cut below a nanosecond, and what is left is rounded up.
+csv: Time [ms],A|0,1|0.0010009,0|0.001001,1 => 1f 2r end 10002
+csv: Time [us],A|0,1|1.0009,0|2.001,1 => 1f 3r end 10003
+csv: Time [ns],A|0,1|1000.9,0|1001,1 => 1f 2r end 10002
+csv: Time [us],A|0,1|1.x,0 => line 3: word 0
+# Times are below 10,000,000,000 seconds in each unit, so nanoseconds from 1970 on are read.
+csv: Time [ns],A|1764547200000000000,1|1764547200012000000,0 => 12000f end 22000
+csv: Time [s],A|9999999999,1 => end 0
+csv: Time [s],A|10000000000,1 => line 2: word 0
+csv: Time [ms],A|9999999999999,1 => end 0
+csv: Time [ms],A|10000000000000,1 => line 2: word 0
+csv: Time [us],A|9999999999999999,1 => end 0
+csv: Time [us],A|10000000000000000,1 => line 2: word 0
+csv: Time [ns],A|9999999999999999999,1 => end 0
+csv: Time [ns],A|10000000000000000000,1 => line 2: word 0
+csv: Time [ns],A|0,1|2000000000000000,0 => 2000000000000f end 2000000000000
+csv: Time [ns],A|0,1|2000000000000001,0 => line 3: late 0
+# Seconds, where the name has no unit, another one, or no brackets; a time of the day is one in any column.
+csv: Time,A [ms]|0,1|1,0 => 1000000f end 1010000
+csv: Time [min],A|0,1|1,0 => 1000000f end 1010000
+csv: Time [m],A|0,1|1,0 => 1000000f end 1010000
+csv: Time [ms,A|0,1|1,0 => 1000000f end 1010000
+csv: Time ms,A|0,1|1,0 => 1000000f end 1010000
+csv: Time [rel] [ms],A|0,1|1,0 => 1000000f end 1010000
+csv: Time [ms],A|2026-11-26T16:00:00Z,1|2026-11-26T16:00:01Z,0 => 1000000f end 1010000
+# Levels as words, in any case, beside numbers.
+csv: Time [s],CEC|0,High|0.012,Low|0.0157,HIGH => 12000f 15700r end 25700
+csv:B Time [ms],A, B|0, low, high~|12, high, low~|15.7, 1, 1~ => 12000f 15700r end 25700
+csv: Time,A|0,lOW|1,hIGH|2,HIGH => 0f 1000000r end 2000000
+csv: Time,A|0,L => line 2: word 1
+csv: Time,A|0,h => line 2: word 1
+csv: Time,A|0,lowhigh => line 2: word 1
+csv: Time,A|0,lo => line 2: word 1
+# Voltages, as Logic 2 exports an analog channel: an input takes up to 0.8 V for a 0 and from 2.0 V on for a 1 (CEC 4), and between them the level stays.
+auto: Time [s],Channel 0|0.000000000,3.301|0.012000000,2.0|0.012000500,1.9|0.012001000,0.9|0.012001500,0.8|0.015700000,-0.012|0.015701000,1.999|0.015702000,2.0|0.015703000,3.6 => 12002f 15702r end 15703
+csv: Time [ms],CEC|0,3.3|12,0.6|15.7,2.5 => 12000f 15700r end 25700
+csv: Time,A|0,1.4|1,0.8|2,0.800000001|3,1.999999999|4,2.|5,2.000000001 => 1000000f 4000000r end 5000000
+csv: Time,A|0,0.0|1,1.4|2,+3.3|3,-0.1|4,+0|5,+1|6,-1 => 0f 2000000r 3000000f end 6000000
+# 0 and 1 alone stay levels, and a column may have both.
+csv: Time,A|0,1|1,1.0|2,0|3,1.0|4,1|5,0.4|6,High => 2000000f 4000000r 5000000f 6000000r end 6010000
+csv: Time,A|0,3 => line 2: word 1
+csv: Time,A|0,3.3V => line 2: word 1
+csv: Time,A|0,.5 => line 2: word 1
+csv: Time,A|0,- => line 2: word 1
+csv: Time,A|0,+-1 => line 2: word 1
+csv: Time,A|0,3.3e0 => line 2: word 1
+csv: Time,A|0,00.1 => line 2: word 1
+csv: Time,A|0,9999999999.9 => end 0
+csv: Time,A|0,10000000000.0 => line 2: word 1
 # As Logic 2 exports times of the day: by the clock of UTC, over midnights, ends of months, leap days and changes of the clock.
 auto: Time [s],CEC|2026-11-26T16:00:00.060000000+00:00,1|2026-11-26T16:00:00.072000000+00:00,0|2026-11-26T16:00:00.075700000+00:00,1 => 12000f 15700r end 25700
 csv: Time,A|2026-11-26T16:00:00.000000000999,1|2026-11-26T16:00:01,0 => 1000000f end 1010000
@@ -179,6 +239,17 @@ smooth:0 10 0|12 1|20 end => 10f 12r end 20
 smooth:2 10 0|12 1|20 end => 10f 12r end 20
 smooth:3 10 0|12 1|20 end => end 20
 smooth:5 10 0|12 1|14 0|600 1|603 0|607 1|700 end => 14f 607r end 700
+# Times are multiplied and cut; what would be shorter than a microsecond goes in pairs, from the left.
+scale:10000 5 0|6 1|20 end => 5f 6r end 20
+scale:1000 10005 0|10014 1|10020 0|10030 1|20009 end => 1002f 1003r end 2000
+scale:1000 9 0|20 1|29 0|100 end => 0f end 10
+scale:15000 1 0|2 1|3 0|7 end => 1f 3r 4f end 10
+scale:1 9999 0|19999 1|30000 end => 0f 1r end 3
+scale:10000000 1 0|2 1|3 end => 1000f 2000r end 3000
+scale:20000 1000000000000 end => end 2000000000000
+scale:20000 1000000000001 end => scale out of range
+scale:10000001 3 end => scale out of range
+scale:0 3 end => scale out of range
 # Events that were lost.
 lost: PINS|100.000000000 1|100.012000001 65536|100.015700000 65537|100.016000000 4|100.017000000 65539 => 8 9 11 .
 lost: PINS|100.000000000 1 => .

@@ -2,14 +2,14 @@
 ghost use Rattle.std.specs.Prelude.{◌≡◌, true, IfOk, MatchResult, None, Some, length, map, string_bytes};
 ghost use Rattle.cli_words.specs.Operands.{asked_on, takes};
 
+use crate::rules::{add_rules, add_rules_of_files};
 use crate::values::value_hint;
 use crate::{edid_help, frames_help, help};
 use clap::error::ErrorKind;
 use clap::{Arg, ArgAction, Command, Error};
-use cli_words::{
-    Asked, CommandLine, Subcommand, asked_by, asked_on, subcommand_of, value_at_fault,
-};
-use explain_lists::{frame_forms, run_words};
+use cli_choice::Asked;
+use cli_words::{CommandLine, asked_by, asked_on, value_at_fault};
+use explain_lists::{Draft, frame_forms, run_words};
 use std::alloc::{AllocError, Global};
 
 /// What is said in place of doing what a command line asks for.
@@ -73,14 +73,40 @@ fn one_file<'a>(alloc: Global) -> Arg<'a> {
     operand(alloc, "file", "FILE", help::FILE)
 }
 
-// Whether help is asked for.
-fn asks_help(words: &[String]) -> bool {
+// Whether one of some words is this one.
+fn has_word(words: &[String], sought: &str) -> bool {
     for word in words {
-        if word.as_str() == "--help" || word.as_str() == "-h" {
+        if word.as_str() == sought {
             return true;
         }
     }
     false
+}
+
+// Whether the whole help is asked for.
+fn asks_help(words: &[String]) -> bool {
+    has_word(words, "--help")
+}
+
+// Whether the flags alone are asked for.
+fn asks_flags(words: &[String]) -> bool {
+    has_word(words, "-h") && !asks_help(words)
+}
+
+/// What stands below the flags in the helps of some commands.
+#[derive(Clone, Copy)]
+struct Helps<'a> {
+    /// Nothing but how to get the rest of it.
+    is_short: bool,
+    run: &'a str,
+    asm: &'a str,
+}
+
+impl<'a> Helps<'a> {
+    // What stands below the flags of a command that has this help.
+    fn below(self, help: &'a str) -> &'a str {
+        if self.is_short { help::SHORT } else { help }
+    }
 }
 
 // What follows the help of `asm`: with the forms of frames from the tables, where help is asked for.
@@ -112,11 +138,11 @@ fn run_help(alloc: Global, words: &[String]) -> Result<String, AllocError> {
 }
 
 // The program itself, before its commands.
-fn program_command<'a>(alloc: Global) -> Result<Command<'a>, AllocError> {
+fn program_command<'a>(alloc: Global, helps: Helps<'a>) -> Result<Command<'a>, AllocError> {
     Command::new(alloc, "hdminet")
         .about(help::ABOUT)
         .version("0.1.0")
-        .after_help(help::OVERVIEW)
+        .after_help(helps.below(help::OVERVIEW))
         .disable_help_subcommand(true)
         .arg(flag(alloc, "explain", help::EXPLAIN_FLAG).global(true))
 }
@@ -130,17 +156,26 @@ fn plain_command<'a>(alloc: Global, name: &'a str, about: &'a str, help: &'a str
 fn add_run<'a>(
     alloc: Global,
     program: Command<'a>,
-    run_help: &'a str,
+    helps: Helps<'a>,
 ) -> Result<Command<'a>, AllocError> {
-    let run = plain_command(alloc, "run", help::RUN_ABOUT, run_help);
+    let run = plain_command(alloc, "run", help::RUN_ABOUT, helps.below(helps.run));
     let run = with_flags(alloc, run, help::RUN_FLAGS)?;
     let run = with_values(alloc, run, help::RUN_VALUES)?;
     program.subcommand(run.arg(one_file(alloc))?)
 }
 
 // Adds the command that tests a network or a capture.
-fn add_check<'a>(alloc: Global, program: Command<'a>) -> Result<Command<'a>, AllocError> {
-    let check = plain_command(alloc, "check", help::CHECK_ABOUT, help::CHECK_HELP);
+fn add_check<'a>(
+    alloc: Global,
+    program: Command<'a>,
+    helps: Helps<'a>,
+) -> Result<Command<'a>, AllocError> {
+    let check = plain_command(
+        alloc,
+        "check",
+        help::CHECK_ABOUT,
+        helps.below(help::CHECK_HELP),
+    );
     let check = with_flags(alloc, check, help::CHECK_FLAGS)?;
     let check = with_values(alloc, check, help::CHECK_VALUES)?;
     let files = operand(alloc, "file", "FILE", help::FILES).action(ArgAction::Append);
@@ -148,15 +183,33 @@ fn add_check<'a>(alloc: Global, program: Command<'a>) -> Result<Command<'a>, All
 }
 
 // Adds the command that steps through a run.
-fn add_step<'a>(alloc: Global, program: Command<'a>) -> Result<Command<'a>, AllocError> {
-    let step = plain_command(alloc, "step", help::STEP_ABOUT, help::STEP_HELP);
+fn add_step<'a>(
+    alloc: Global,
+    program: Command<'a>,
+    helps: Helps<'a>,
+) -> Result<Command<'a>, AllocError> {
+    let step = plain_command(
+        alloc,
+        "step",
+        help::STEP_ABOUT,
+        helps.below(help::STEP_HELP),
+    );
     let step = with_flags(alloc, step, help::STEP_FLAGS)?;
     program.subcommand(step.arg(one_file(alloc))?)
 }
 
 // Adds the command that answers a script line by line.
-fn add_live<'a>(alloc: Global, program: Command<'a>) -> Result<Command<'a>, AllocError> {
-    let live = plain_command(alloc, "live", help::LIVE_ABOUT, help::LIVE_HELP);
+fn add_live<'a>(
+    alloc: Global,
+    program: Command<'a>,
+    helps: Helps<'a>,
+) -> Result<Command<'a>, AllocError> {
+    let live = plain_command(
+        alloc,
+        "live",
+        help::LIVE_ABOUT,
+        helps.below(help::LIVE_HELP),
+    );
     let live = with_flags(alloc, live, help::LIVE_FLAGS)?;
     program.subcommand(live)
 }
@@ -165,37 +218,70 @@ fn add_live<'a>(alloc: Global, program: Command<'a>) -> Result<Command<'a>, Allo
 fn add_asm<'a>(
     alloc: Global,
     program: Command<'a>,
-    asm_help: &'a str,
+    helps: Helps<'a>,
 ) -> Result<Command<'a>, AllocError> {
-    let asm = plain_command(alloc, "asm", frames_help::ASM_ABOUT, asm_help);
+    let asm = plain_command(alloc, "asm", frames_help::ASM_ABOUT, helps.below(helps.asm));
     program.subcommand(asm.arg(one_file(alloc))?)
 }
 
 // Adds the command that reads frames in hex.
-fn add_dis<'a>(alloc: Global, program: Command<'a>) -> Result<Command<'a>, AllocError> {
-    let dis = plain_command(alloc, "dis", frames_help::DIS_ABOUT, frames_help::DIS_HELP);
+fn add_dis<'a>(
+    alloc: Global,
+    program: Command<'a>,
+    helps: Helps<'a>,
+) -> Result<Command<'a>, AllocError> {
+    let dis = plain_command(
+        alloc,
+        "dis",
+        frames_help::DIS_ABOUT,
+        helps.below(frames_help::DIS_HELP),
+    );
     let dis = with_flags(alloc, dis, frames_help::DIS_FLAGS)?;
     program.subcommand(dis.arg(one_file(alloc))?)
 }
 
 // Adds the command that lays frames.
-fn add_lay<'a>(alloc: Global, program: Command<'a>) -> Result<Command<'a>, AllocError> {
-    let lay = plain_command(alloc, "lay", frames_help::LAY_ABOUT, frames_help::LAY_HELP);
+fn add_lay<'a>(
+    alloc: Global,
+    program: Command<'a>,
+    helps: Helps<'a>,
+) -> Result<Command<'a>, AllocError> {
+    let lay = plain_command(
+        alloc,
+        "lay",
+        frames_help::LAY_ABOUT,
+        helps.below(frames_help::LAY_HELP),
+    );
     let lay = with_flags(alloc, lay, frames_help::LAY_FLAGS)?;
     program.subcommand(lay.arg(one_file(alloc))?)
 }
 
 // Adds the command that reads captures.
-fn add_mon<'a>(alloc: Global, program: Command<'a>) -> Result<Command<'a>, AllocError> {
-    let mon = plain_command(alloc, "mon", help::MON_ABOUT, help::MON_HELP);
+fn add_mon<'a>(
+    alloc: Global,
+    program: Command<'a>,
+    helps: Helps<'a>,
+) -> Result<Command<'a>, AllocError> {
+    let mon = plain_command(alloc, "mon", help::MON_ABOUT, helps.below(help::MON_HELP));
     let mon = with_flags(alloc, mon, help::MON_FLAGS)?;
     let mon = with_values(alloc, mon, help::MON_VALUES)?;
-    program.subcommand(mon.arg(one_file(alloc))?)
+    let mon = mon.arg(one_file(alloc))?;
+    let other = operand(alloc, "other", "OTHER", help::OTHER);
+    program.subcommand(mon.arg(other)?)
 }
 
 // Adds the command that reads EDIDs.
-fn add_edid<'a>(alloc: Global, program: Command<'a>) -> Result<Command<'a>, AllocError> {
-    let edid = plain_command(alloc, "edid", edid_help::EDID_ABOUT, edid_help::EDID_HELP);
+fn add_edid<'a>(
+    alloc: Global,
+    program: Command<'a>,
+    helps: Helps<'a>,
+) -> Result<Command<'a>, AllocError> {
+    let edid = plain_command(
+        alloc,
+        "edid",
+        edid_help::EDID_ABOUT,
+        helps.below(edid_help::EDID_HELP),
+    );
     let edid = with_flags(alloc, edid, edid_help::EDID_FLAGS)?;
     let edid = with_values(alloc, edid, edid_help::EDID_VALUES)?;
     let edid = edid.arg(one_file(alloc))?;
@@ -204,41 +290,27 @@ fn add_edid<'a>(alloc: Global, program: Command<'a>) -> Result<Command<'a>, Allo
 }
 
 // The program with its commands, in the order in which help lists them.
-fn command<'a>(
-    alloc: Global,
-    run_help: &'a str,
-    asm_help: &'a str,
-) -> Result<Command<'a>, AllocError> {
-    let program = program_command(alloc)?;
-    let program = add_run(alloc, program, run_help)?;
-    let program = add_check(alloc, program)?;
-    let program = add_step(alloc, program)?;
-    let program = add_live(alloc, program)?;
-    let program = add_asm(alloc, program, asm_help)?;
-    let program = add_dis(alloc, program)?;
-    let program = add_lay(alloc, program)?;
-    let program = add_mon(alloc, program)?;
-    add_edid(alloc, program)
+fn command<'a>(alloc: Global, helps: Helps<'a>) -> Result<Command<'a>, AllocError> {
+    let program = program_command(alloc, helps)?;
+    let program = add_run(alloc, program, helps)?;
+    let program = add_check(alloc, program, helps)?;
+    let program = add_step(alloc, program, helps)?;
+    let program = add_live(alloc, program, helps)?;
+    let program = add_asm(alloc, program, helps)?;
+    let program = add_dis(alloc, program, helps)?;
+    let program = add_lay(alloc, program, helps)?;
+    let program = add_mon(alloc, program, helps)?;
+    add_edid(alloc, program, helps)
 }
 
 // Whether explanations are asked for.
 fn asks_explanation(words: &[String]) -> bool {
-    for word in words {
-        if word.as_str() == "--explain" {
-            return true;
-        }
-    }
-    false
+    has_word(words, "--explain")
 }
 
 // Puts a command line to the table of commands and flags, which refuses it, shows a help, or takes it.
-fn put_to_table(
-    alloc: Global,
-    words: &[String],
-    run_help: &str,
-    asm_help: &str,
-) -> Result<(), Error> {
-    let command = command(alloc, run_help, asm_help)?;
+fn put_to_table(alloc: Global, words: &[String], helps: Helps<'_>) -> Result<(), Error> {
+    let command = command(alloc, helps)?;
     let _ = command.try_get_matches_from(words)?;
     Ok(())
 }
@@ -247,7 +319,12 @@ fn put_to_table(
 fn put_with_help(alloc: Global, words: &[String]) -> Result<(), Error> {
     let run_help = run_help(alloc, words)?;
     let asm_help = asm_help(alloc, words)?;
-    put_to_table(alloc, words, run_help.as_str(), asm_help.as_str())
+    let helps = Helps {
+        is_short: asks_flags(words),
+        run: run_help.as_str(),
+        asm: asm_help.as_str(),
+    };
+    put_to_table(alloc, words, helps)
 }
 
 // What follows words that are refused: with `--explain` among them, how the program is called.
@@ -322,47 +399,29 @@ fn refusal(alloc: Global, error: &Error, words: &[String], line: &CommandLine) -
     }
 }
 
-// What goes with what in a subcommand, if it has flags of its own.
-fn rules_of(subcommand: Subcommand) -> Option<&'static str> {
-    match subcommand {
-        Subcommand::Run => Some(help::RUN_RULES),
-        Subcommand::Check => Some(help::CHECK_RULES),
-        Subcommand::Mon => Some(help::MON_RULES),
-        Subcommand::Edid => Some(edid_help::EDID_RULES),
-        Subcommand::Step | Subcommand::Live | Subcommand::Asm | Subcommand::Dis | Subcommand::Lay =>
-            None,
+// Adds why words that the table takes ask for nothing: a value that its flag does not take, flags that do not go together, or the
+// files that they are asked of.
+fn add_why(draft: &mut Draft, line: &CommandLine) {
+    if asked_by(&line.words).is_some() {
+        draft.add_all(&["error: ", help::FILES_DIFFER, "\n\n"]);
+        add_rules_of_files(draft, &line.words);
+    } else if value_at_fault(&line.words).is_some() {
+        draft.add_all(&["error: ", help::VALUE_DIFFERS, "\n"]);
+    } else {
+        draft.add_all(&["error: ", help::FLAGS_DIFFER, "\n\n"]);
+        add_rules(draft, &line.words);
     }
 }
 
-// The same in the first such subcommand that some words name.
-fn rules(words: &[String]) -> &'static str {
-    for word in words {
-        if let Some(subcommand) = subcommand_of(word.as_str()) {
-            if let Some(rules) = rules_of(subcommand) {
-                return rules;
-            }
-        }
-    }
-    ""
-}
-
-// Why words that the table takes ask for nothing: their flags and values, or the files that they are asked of.
-fn why_nothing(line: &CommandLine) -> &'static str {
-    match asked_by(&line.words) {
-        Some(_) => help::FILES_DIFFER,
-        None => help::FLAGS_DIFFER,
-    }
-}
-
-// What is said of such words: what goes with what, and a value that its flag does not take.
+// What is said of such words: which rule they break, or a value that its flag does not take.
 fn rules_said(alloc: Global, line: &CommandLine) -> Result<String, AllocError> {
-    let why = why_nothing(line);
-    let rules = rules(&line.words);
+    let mut draft = Draft::new(alloc);
+    add_why(&mut draft, line);
+    draft.add("\nFor more information, try '--help'.\n");
     let value = value_named(alloc, &line.words)?;
-    let explanation = explanation(&line.words);
-    format!(in alloc;
-        "error: {why}\n{rules}\nFor more information, try '--help'.\n{value}{explanation}"
-    )
+    draft.add(value.as_str());
+    draft.add(explanation(&line.words));
+    draft.finish()
 }
 
 // What becomes of such words.

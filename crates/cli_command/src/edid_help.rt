@@ -31,12 +31,28 @@ pub const EDID_FLAGS: &[(&str, &str)] = &[
         "Prints what a reading over DDC gives, segment by segment",
     ),
     (
+        "room",
+        "Prints how many bytes of each block are used, and for what there is room",
+    ),
+    (
+        "eld",
+        "Prints its ELD, which a sound driver reads, as one line of hex",
+    ),
+    (
+        "from-eld",
+        "Reads an ELD's bytes, and prints what its fields say",
+    ),
+    (
         "json",
-        "Prints the fields as objects of JSON, or with --check each line",
+        "Prints the fields as objects of JSON, of an ELD with --eld and --from-eld, or with --check, --room, --infoframe and --diff each line",
     ),
     (
         "merge",
         "Reads a display's EDID and a receiver's, and prints what the receiver answers with",
+    ),
+    (
+        "diff",
+        "Reads two EDIDs, and prints where they differ; status 1 where they do",
     ),
     (
         "eeodb",
@@ -45,6 +61,10 @@ pub const EDID_FLAGS: &[(&str, &str)] = &[
     (
         "as-source",
         "Reads the EDID as a source does, which mends some and passes over others",
+    ),
+    (
+        "mend",
+        "Sets its checksums right, and the count of its extensions",
     ),
 ];
 
@@ -76,21 +96,21 @@ pub const EDID_VALUES: &[(&str, &str, &str)] = &[
         "With --merge: whose blocks are taken, as video=keep,audio=own",
     ),
     (
+        "infoframe",
+        "HEX",
+        "Prints what this InfoFrame says, and what of it the display does not offer; status 1 where there is such",
+    ),
+    (
+        "as",
+        "FORM",
+        "Prints the EDID as c, an array, xml, a file of Quantum Data's tools, or firmware, a kernel's file",
+    ),
+    (
         "nth",
         "NUMBER",
         "With --hex: reads this EDID of several, from 1",
     ),
 ];
-
-pub const EDID_RULES: &str = "
-  of --text, --words and --hex one is given at most, of --raw, --check, --meaning,
-  --only-address and --ddc, of --address and --port, and of --eeodb and --as-source
-  --json goes alone or with --check
-  --below goes with --port alone, --speakers with --below alone, --nth with
-  --hex alone, --rows with --merge alone, which goes with none of --text, --words,
-  --nth, --eeodb and --as-source
-  two files go with --merge alone, and standard input, `-`, is none of them
-";
 
 pub const EDID_HELP: &str = "\
 The input is an EDID of 128, 256, 384 or 512 bytes: a base block of E-EDID 1.3 or 1.4, and up to
@@ -135,15 +155,17 @@ With --words it is a text in which these lines may have words in place of hex or
                                        latency and interlaced-latency of video and sound in ms,
                                        3d-present vic-1 vic-2 vic-3 vic-4
   timing vic 16 520 290                a video code, and perhaps the image's sides in mm
+  timing dmt 52 520 290                VESA's monitor timing of this identifier, in hex
+  timing cvt 2560 1440 75 600 340      pixels, lines and Hz by VESA's formula cvt, cvt-rb or gtf, and perhaps the sides
 One word of hex digits, two for each byte, is hex: `video 16` is code 22. Lines that begin with a space, as
 --meaning prints them, are passed over. The same text, in hex:
   ./hdminet edid --words --raw < tv.txt | ./hdminet edid
 
-With --hex the input is a hex dump: plain digits, or as `xxd`, `hexdump`, `od`, `i2cdump` and `edid-decode`
-print it, or a list of bytes, as programs and registries have it, or with other text around, as
-`xrandr --prop` has it. It begins at the first line whose bytes are the header 00 ff ff ff ff ff ff 00, and
-may be what each of the other flags reads. Of a text with several EDIDs --nth N takes another than the
-first, and standard error says how many there are:
+With --hex the input is a hex dump: plain digits, or as `xxd`, `hexdump`, `od`, `i2cdump`, `edid-decode` and
+PowerShell print it, or a list of bytes, as programs, registries and JSON have it, or Intel HEX, or with
+other text around, as `xrandr --prop` has it. It begins at the first line whose bytes are the header
+00 ff ff ff ff ff ff 00, and may be what each of the other flags reads. Of a text with several EDIDs --nth N
+takes another than the first, and standard error says how many there are:
   xrandr --prop | ./hdminet edid --hex
   xrandr --prop | ./hdminet edid --hex --nth 2
 
@@ -205,6 +227,18 @@ letters of the maker, bytes after the last extension that is counted, an extensi
 (mended where it is of CTA-861, else left out), and extensions after the third. The override counts too, where
 it is not 0 and its block is there whole; in what is written it counts the extensions that are left:
   ./hdminet edid --as-source --raw < old.edid > mended.edid
+
+With --mend the last byte of each block is the one that makes the sum of its bytes 0 modulo 256, and byte 126
+counts the blocks after the first; no other byte changes. Standard error has a line for each byte that is set
+right. With --eeodb too an override that block 1 begins with counts them, and byte 126 is 1:
+  ./hdminet edid --mend --raw < edited.edid > tv.edid
+
+With --room the output is a line for each block: its bytes that are used and left, and for what there is room.
+Of the base block these are unused descriptors, standard timings and established timings; of a CTA block the
+bytes of its data blocks, its timings and its tail, and how many timings the bytes left have room for. As many
+bytes are left for data blocks, each with its first byte:
+  block 0 base used 96 left 32 free-descriptors 1 free-standards 7 free-established 14
+  block 1 cta blocks 18 timings 0 tail 0 used 23 left 105 free-timings 5
 
 With --ddc the output is what a reading over DDC gives: for each segment a line `segment N` and sixteen
 rows of an offset and sixteen bytes, FF where a block is missing.

@@ -13,8 +13,12 @@ pub const FILE: &str = "What is read; standard input where it is left out, or `-
 pub const FILES: &str =
     "What is tested, of several each by itself; standard input where it is left out, or `-`";
 
-/// The second that `edid --merge` reads.
-pub const RECEIVER: &str = "With --merge, the receiver's EDID, where FILE is the display's alone";
+/// The second that `edid --merge` and `edid --diff` read.
+pub const RECEIVER: &str =
+    "With --merge, the receiver's EDID, where FILE is the display's alone; with --diff, the other EDID";
+
+/// The second that `mon --diff` reads.
+pub const OTHER: &str = "With --diff, the other capture, where FILE is the first alone";
 
 /// What follows a refused command line that has `--explain`.
 pub const EXPLAINED: &str =
@@ -24,7 +28,10 @@ pub const EXPLAINED: &str =
 pub const FILE_ALONE: &str = "  a file stands after a subcommand: `hdminet run FILE`\n";
 
 /// Why words ask for nothing, that are known each by itself.
-pub const FLAGS_DIFFER: &str = "a value is none of its flag, or flags do not go together";
+pub const FLAGS_DIFFER: &str = "flags do not go together";
+
+/// The same of words with a value that its flag does not take.
+pub const VALUE_DIFFERS: &str = "a value is none of its flag";
 
 /// The same of words that would ask for something with other files.
 pub const FILES_DIFFER: &str = "so many files do not go with these flags, or `-` is one of several";
@@ -33,12 +40,16 @@ pub const FILES_DIFFER: &str = "so many files do not go with these flags, or `-`
 pub const HELP_WORD: &str =
     "  the help is `hdminet --help`, and that of a subcommand `hdminet run --help`\n";
 
+/// What stands below the flags where they alone are asked for.
+pub const SHORT: &str =
+    "`--help` explains what is read and written, with examples, faults and exit statuses.";
+
 pub const OVERVIEW: &str = "\
 With --explain a fault is followed by the line of the input, the word at fault, and what would be right.
 
 Each subcommand reads the file that is named after it, or standard input where none is, or `-`, and writes
 standard output; `live` reads standard input alone. After `--` each word is a file. `check` takes several
-files, `edid --merge` two. `hdminet SUBCOMMAND --help` explains the input. With no subcommand it is `run`.
+files, `edid --merge`, `edid --diff` and `mon --diff` two. `hdminet SUBCOMMAND --help` explains the input. With no subcommand it is `run`.
 
 Examples, of which the folder examples/ has the inputs and outputs:
   ./hdminet run examples/first-path.net
@@ -120,12 +131,6 @@ pub const RUN_VALUES: &[(&str, &str, &str)] = &[(
     "FORMAT",
     "With --edges, prints the line as vcd, for PulseView and GTKWave, pin, for cec-ctl, or csv",
 )];
-
-pub const RUN_RULES: &str = "
-  --as goes with --edges alone
-  --drives goes with --edges --as vcd alone, --named with --drives alone
-  --json goes without --edges; --room goes with --json alone
-";
 
 pub const RUN_HELP: &str = "\
 The input has two parts, parted by a line `script`. Lines that are empty or begin with `#` are
@@ -247,13 +252,6 @@ pub const CHECK_VALUES: &[(&str, &str, &str)] = &[
         "Passes over pulses and gaps of a capture that are shorter; 50 is safe",
     ),
 ];
-
-pub const CHECK_RULES: &str = "
-  of --trace, --plain, --progress and --capture one is given at most; --json goes with --trace or --capture,
-  and not with --plain or --progress
-  --from, --signal and --glitch go with --capture alone, --signal with vcd and csv alone
-  several files go with neither --plain nor --json, and standard input, `-`, is none of them
-";
 
 pub const CHECK_HELP: &str = "\
 The input is that of `hdminet run`, and its script may also have labels and expectations:
@@ -490,7 +488,7 @@ pub const MON_FLAGS: &[(&str, &str)] = &[
     ),
     (
         "strict",
-        "Ends with status 1 where the audit has a remark, once all of it is printed",
+        "Ends with status 1 where the audit has a remark, or with --report would have one, once all of it is printed",
     ),
     (
         "fold",
@@ -501,6 +499,22 @@ pub const MON_FLAGS: &[(&str, &str)] = &[
         "Prints each line as an object of JSON: readings, and with --audit remarks",
     ),
     ("edges", "Prints the line itself, as an edge file"),
+    (
+        "report",
+        "Prints what the capture tells of each device on the line",
+    ),
+    (
+        "verdict",
+        "Prints in one line what the capture looks like as a whole",
+    ),
+    (
+        "as-test",
+        "Prints expectations that the capture meets, for check --capture",
+    ),
+    (
+        "diff",
+        "Reads two captures, and prints where their frames differ; status 1 where they do",
+    ),
     (
         "follow",
         "With --from edges, pin or csv, prints each reading as soon as the lines so far say that it is over",
@@ -516,6 +530,11 @@ pub const MON_VALUES: &[(&str, &str, &str)] = &[
     ),
     SIGNAL,
     (
+        "scale",
+        "FACTOR",
+        "Multiplies each time, of a capture in another unit or of a clock that is off",
+    ),
+    (
         "glitch",
         "MICROSECONDS",
         "Passes over pulses and gaps that are shorter; 50 is safe",
@@ -525,14 +544,12 @@ pub const MON_VALUES: &[(&str, &str, &str)] = &[
         "MICROSECONDS",
         "Reads by windows that are wider at either side, by 300 at most",
     ),
+    (
+        "replay",
+        "ADDRESS",
+        "Prints what the device of a logical address drove, as lines `pin` of a script",
+    ),
 ];
-
-pub const MON_RULES: &str = "
-  --signal goes with vcd and csv alone; of --from-start and --from-idle one is given at most, and neither
-  with --audit and --timing; --strict goes with one of these two
-  --follow goes with --from edges, pin or csv, and not with --fold and --from-idle
-  --edges goes with --from, --signal, --invert and --glitch alone
-";
 
 pub const MON_HELP: &str = "\
 The input is an edge file: the falls and rises of the CEC line in the order of their times, as a logic
@@ -569,10 +586,14 @@ been high for 7200 microseconds, since a capture may begin in the middle of a fr
 With --from-start all readings are printed. With --glitch pulses and gaps of fewer microseconds are passed
 over. With --margin the windows of a start bit and of a bit's period are so many microseconds wider at
 either side, for devices that are nearly right; an audit still names each width that is out of the
-standard's. With --invert a level that is captured as low is high, and the other way round. Events that
-a pin file has lost are named on standard error, and so is what may have to be asked for otherwise:
-another wire, --glitch, --margin or --invert; of an edge file that is read with no flag with --explain
-alone.
+standard's. With --invert a level that is captured as low is high, and the other way round. With --scale
+each time is multiplied by a number, 0.0001 to 1000, and cut to whole microseconds, after --invert and before
+--glitch; of a capture whose bits last N microseconds it is 2400 / N:
+  ./hdminet mon --scale 0.1 < tenths.edges
+
+Standard error names the events that a pin file has lost, the wires of a capture on whose first nothing was
+read, and the verdict of a line that is not fine: what it looks like, and the flag that reads more of it. An
+edge file that is read with no flag has its verdict with --explain alone.
 
 With --edges the output is the line itself, as an edge file.
 
@@ -591,8 +612,10 @@ far as none has a line below it.
 
 With --follow each line of an edge file, of pin events or of comma-separated values is read as it comes, at
 most 4096 bytes long, and a reading is printed as soon as it is over, all of them as with --from-start; what
-was printed before a fault stays. With --audit what there is to say of a reading is printed as soon as the
-next fall, or the end, says all of it:
+was printed before a fault stays. With --from-idle nothing is printed before the line has been high for 7200
+microseconds, then the line for the readings before. With --fold bad starts one after another are printed
+once another reading is over, or with the end. With --audit what there is to say of a reading is printed as
+soon as the next fall, or the end, says all of it:
   pin-events | ./hdminet mon --follow --from pin --audit
 
 With --json each line of the output is an object of JSON, whose first field is that line. Of an audit its
@@ -602,7 +625,7 @@ CEC and its values.
 Faults: `line N: CAUSE` for the first line at fault; nothing is written then. Of an edge file CAUSE is line
 (ill-formed, past the limit or after the end; or the line after the last, where no end is there) or order
 (out of turn or time); of the others also word, scale, signal, time, late and end, as docs/captures.md
-has them.
+has them. `scale: late` where --scale takes the end past 2000000000000.
 
 Exit status: 0 done; 1 input refused, or a remark with --strict; 2 command line refused; 3 a read or write
 fault, or input past 1048576 bytes, with --from past 67108864; 4 no memory.";

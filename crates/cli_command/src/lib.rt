@@ -5,6 +5,7 @@ mod choice;
 mod edid_help;
 mod frames_help;
 mod help;
+mod rules;
 mod values;
 
 pub use choice::{Refused, choose};

@@ -12,6 +12,12 @@ fn row_of(flag: Valued) -> (&'static str, &'static str) {
         Valued::As => ("--as", "vcd, pin or csv"),
         Valued::From => ("--from", "edges, vcd, pin or csv"),
         Valued::Signal => ("--signal", "the name of a wire"),
+        Valued::Scale => {
+            (
+                "--scale",
+                "a number above 0 and up to 1000, digits with at most four decimals, and no zero before them but `0.`",
+            )
+        }
         Valued::Glitch => {
             (
                 "--glitch",
@@ -22,6 +28,12 @@ fn row_of(flag: Valued) -> (&'static str, &'static str) {
             (
                 "--margin",
                 "a number of microseconds, digits alone and no zero before them, 0 to 300",
+            )
+        }
+        Valued::Replay => {
+            (
+                "--replay",
+                "the logical address of a device, one digit 0 to 9 or a to e",
             )
         }
         Valued::Address => {
@@ -40,6 +52,13 @@ fn row_of(flag: Valued) -> (&'static str, &'static str) {
             (
                 "--rows",
                 "KIND=ROW, a comma apart, 12 at most; product, audio, maker-video, maker-audio and other take keep or own, video link too, hdmi and forum least too, and speakers, capability, colorimetry and hdr keep, own or and",
+            )
+        }
+        Valued::EdidAs => ("--as", "c, xml or firmware"),
+        Valued::InfoFrame => {
+            (
+                "--infoframe",
+                "an InfoFrame in hex, 4 to 31 bytes: its type, version, length and checksum, and what it says",
             )
         }
         Valued::Nth => (

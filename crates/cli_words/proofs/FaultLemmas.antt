@@ -3,16 +3,16 @@ use Rattle.std.proofs.Common.{◌≡◌, ℕ, Bool, true, false, if◌then◌els
 use Rattle.std.specs.Str.{bytes_eq}
 use Rattle.cli_words.specs.AtFault.{FlagForm, by_flags, capture_flag, check_form, edid_flag, edid_form, fault_among, fault_as, fault_of, fault_with, mon_form, run_form, value_after, value_at_fault, value_by}
 use Rattle.cli_words.specs.CheckFlags.{check_asked, check_flags, with_check_word}
-use Rattle.cli_words.specs.EdidFlags.{edid_asked, edid_flags, with_edid_word}
+use Rattle.cli_edid.specs.EdidFlags.{edid_asked, edid_flags, with_edid_word}
 use Rattle.cli_words.specs.Line.{asked_as, asked_by, asked_of, asked_with, explained, no_check_flags, no_edid_flags, no_mon_flags, no_run_flags, subcommand_of}
 use Rattle.cli_words.specs.MonFlags.{mon_asked, mon_flags, with_mon_word}
 use Rattle.cli_words.specs.RunFlags.{run_asked, run_flags, with_run_word}
 use Rattle.cli_words.specs.declared.at_fault.Valued.{Valued}
 use Rattle.cli_words.specs.declared.at_fault.Valued.TheVariants as valued
 use Rattle.cli_words.specs.declared.check_flags.CheckFlags.{CheckFlags}
-use Rattle.cli_words.specs.declared.choice.Asked.{Asked}
-use Rattle.cli_words.specs.declared.edid_flags.EdidFlags.{EdidFlags}
-use Rattle.cli_words.specs.declared.edid_flags.EdidValue.{EdidValue}
+use Rattle.cli_choice.specs.declared.choice.Asked.{Asked}
+use Rattle.cli_edid.specs.declared.flags.EdidFlags.{EdidFlags}
+use Rattle.cli_edid.specs.declared.flags.EdidValue.{EdidValue}
 use Rattle.cli_words.specs.declared.mon_flags.MonFlags.{MonFlags}
 use Rattle.cli_words.specs.declared.mon_flags.MonValue.{MonValue}
 use Rattle.cli_words.specs.declared.run_flags.RunFlags.{RunFlags}

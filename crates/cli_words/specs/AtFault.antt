@@ -3,20 +3,20 @@ use Rattle.std.specs.Prelude.{ℕ, List, [], ◌∷◌, Option, Some, None, if�
 use Rattle.std.specs.Option.{option_map}
 use Rattle.std.specs.Str.{bytes_eq}
 use Rattle.cli_words.specs.CheckFlags.{with_check_flag, with_check_word}
-use Rattle.cli_words.specs.EdidFlags.{with_edid_flag, with_edid_word}
-use Rattle.cli_words.specs.Joined.{joined}
+use Rattle.cli_edid.specs.EdidFlags.{with_edid_flag, with_edid_word}
+use Rattle.cli_choice.specs.Joined.{joined}
 use Rattle.cli_words.specs.Line.{no_check_flags, no_edid_flags, no_mon_flags, no_run_flags, subcommand_of}
 use Rattle.cli_words.specs.MonFlags.{with_mon_flag, with_mon_word}
 use Rattle.cli_words.specs.RunFlags.{one_run_flag, with_run_word}
 use Rattle.cli_words.specs.declared.at_fault.Valued.{Valued}
 use Rattle.cli_words.specs.declared.at_fault.Valued.TheVariants as valued
 use Rattle.cli_words.specs.declared.check_flags.CheckFlags.{CheckFlags}
-use Rattle.cli_words.specs.declared.edid_flags.EdidFlags.{EdidFlags}
-use Rattle.cli_words.specs.declared.edid_flags.EdidValue.{EdidValue}
-use Rattle.cli_words.specs.declared.edid_flags.EdidValue.TheVariants as edid
+use Rattle.cli_edid.specs.declared.flags.EdidFlags.{EdidFlags}
+use Rattle.cli_edid.specs.declared.flags.EdidValue.{EdidValue}
+use Rattle.cli_edid.specs.declared.flags.EdidValue.TheVariants as edid
 use Rattle.cli_words.specs.declared.mon_flags.MonFlags.{MonFlags}
 use Rattle.cli_words.specs.declared.mon_flags.MonValue.{MonValue}
-use Rattle.cli_words.specs.declared.mon_flags.MonValue.TheVariants.{From, Signal, Glitch, Margin}
+use Rattle.cli_words.specs.declared.mon_flags.MonValue.TheVariants.{From, Signal, Scale, Glitch, Margin, Replay}
 use Rattle.cli_words.specs.declared.run_flags.RunFlags.{RunFlags}
 use Rattle.cli_words.specs.declared.subcommand.Subcommand.{Subcommand}
 use Rattle.cli_words.specs.declared.subcommand.Subcommand.TheVariants.{Run, Check, Mon, Edid}
@@ -36,8 +36,10 @@ run_form = record { waits = λ flags. if flags.waits then Some valued.As else No
 abbrev pub capture_flag : MonValue → Valued
 capture_flag From = valued.From
 capture_flag Signal = valued.Signal
+capture_flag Scale = valued.Scale
 capture_flag Glitch = valued.Glitch
 capture_flag Margin = valued.Margin
+capture_flag Replay = valued.Replay
 
 abbrev pub check_form : FlagForm CheckFlags
 check_form = record {
@@ -61,6 +63,8 @@ edid_flag edid.Below = valued.Below
 edid_flag edid.Speakers = valued.Speakers
 edid_flag edid.Rows = valued.Rows
 edid_flag edid.Nth = valued.Nth
+edid_flag edid.As = valued.EdidAs
+edid_flag edid.InfoFrame = valued.InfoFrame
 
 abbrev pub edid_form : FlagForm EdidFlags
 edid_form = record {

@@ -2,26 +2,28 @@
 use Rattle.std.specs.Prelude.{ℕ, List, [], ◌∷◌, Bool, Option, Some, None, if◌then◌else◌, true, false, codes, not, ◌&&◌, ◌||◌, is_some, unwrap_or, option_and_then, is_none}
 use Rattle.std.specs.Option.{option_map}
 use Rattle.std.specs.Str.{bytes_eq}
-use Rattle.cli_words.specs.Joined.{joined}
-use Rattle.cli_words.specs.Micros.{micros_of}
+use Rattle.cli_choice.specs.Joined.{joined}
+use Rattle.cli_choice.specs.Micros.{micros_of}
 use Rattle.cli_words.specs.MonFlags.{form_of, has_names}
 use Rattle.cli_words.specs.declared.check_flags.CheckFlags.{CheckFlags}
-use Rattle.cli_words.specs.declared.choice.Asked.{Asked}
-use Rattle.cli_words.specs.declared.choice.CommandChoice.{CommandChoice}
-use Rattle.cli_words.specs.declared.choice.CommandChoice.TheVariants.{Check, CheckCapture, Json}
+use Rattle.cli_choice.specs.declared.choice.Asked.{Asked}
+use Rattle.cli_choice.specs.declared.choice.CommandChoice.{CommandChoice}
+use Rattle.cli_choice.specs.declared.choice.CommandChoice.TheVariants.{Check, CheckCapture, Json}
 use Rattle.capture_forms.specs.declared.form.CaptureForm.{CaptureForm}
-use Rattle.cli_words.specs.declared.choice.Objects.TheVariants as objects
-use Rattle.cli_words.specs.declared.choice.TestView.{TestView}
-use Rattle.cli_words.specs.declared.choice.TestView.TheVariants.{Report, Progress, Traced, Plain}
+use Rattle.cli_choice.specs.declared.choice.Objects.TheVariants as objects
+use Rattle.cli_choice.specs.declared.choice.TestView.{TestView}
+use Rattle.cli_choice.specs.declared.choice.TestView.TheVariants.{Report, Progress, Traced, Plain}
 use Rattle.cli_words.specs.declared.mon_flags.MonValue.{MonValue}
-use Rattle.cli_words.specs.declared.mon_flags.MonValue.TheVariants.{From, Signal, Glitch, Margin}
+use Rattle.cli_words.specs.declared.mon_flags.MonValue.TheVariants.{From, Signal, Scale, Glitch, Margin, Replay}
 
 -- the flags with the value of the last
 abbrev pub with_check_value : CheckFlags → MonValue → List ℕ → Option CheckFlags
 with_check_value flags From word = option_map (λ form. record flags { form = Some form; waits = None }) (form_of word)
 with_check_value flags Signal word = Some (record flags { named = true; waits = None })
 with_check_value flags Glitch word = option_map (λ glitch. record flags { glitch = Some glitch; waits = None }) (micros_of word)
+with_check_value flags Scale word = None
 with_check_value flags Margin word = None
+with_check_value flags Replay word = None
 
 -- the flags with one more; each stands once at most
 abbrev pub with_check_flag : CheckFlags → List ℕ → Option CheckFlags

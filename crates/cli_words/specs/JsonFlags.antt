@@ -1,9 +1,9 @@
 -- The flags of subcommands that have `--json` and `--explain` alone (own).
 use Rattle.std.specs.Prelude.{ℕ, List, [], ◌∷◌, Option, Some, None, if◌then◌else◌, true, codes, ◌&&◌, option_and_then, not}
 use Rattle.std.specs.Str.{bytes_eq}
-use Rattle.cli_words.specs.Form.{form_by}
-use Rattle.cli_words.specs.declared.choice.Asked.{Asked}
-use Rattle.cli_words.specs.declared.choice.CommandChoice.TheVariants.{Lay, Live, Step}
+use Rattle.cli_choice.specs.Form.{form_by}
+use Rattle.cli_choice.specs.declared.choice.Asked.{Asked}
+use Rattle.cli_choice.specs.declared.choice.CommandChoice.TheVariants.{Lay, Live, Step}
 use Rattle.cli_words.specs.declared.json_flags.JsonFlags.{JsonFlags}
 
 -- the flags with one more; each stands once at most

@@ -1,12 +1,8 @@
-pub mod Joined
-pub mod Micros
-pub mod Rows
 pub mod RunFlags
 pub mod CheckFlags
-pub mod Form
 pub mod DisFlags
 pub mod MonFlags
-pub mod EdidFlags
+pub mod Named
 pub mod Line
 pub mod JsonFlags
 pub mod AtFault

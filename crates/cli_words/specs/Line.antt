@@ -4,15 +4,15 @@ use Rattle.std.specs.Option.{option_map}
 use Rattle.std.specs.Str.{bytes_eq}
 use Rattle.cli_words.specs.CheckFlags.{check_asked, check_flags}
 use Rattle.cli_words.specs.DisFlags.{dis_asked, dis_flags}
-use Rattle.cli_words.specs.EdidFlags.{edid_asked, edid_flags}
+use Rattle.cli_edid.specs.EdidFlags.{edid_asked, edid_flags}
 use Rattle.cli_words.specs.JsonFlags.{json_flags, lay_asked, live_asked, step_asked}
 use Rattle.cli_words.specs.MonFlags.{mon_asked, mon_flags}
 use Rattle.cli_words.specs.RunFlags.{run_asked, run_flags}
 use Rattle.cli_words.specs.declared.check_flags.CheckFlags.{CheckFlags}
-use Rattle.cli_words.specs.declared.choice.Asked.{Asked}
-use Rattle.cli_words.specs.declared.choice.CommandChoice.{CommandChoice}
-use Rattle.cli_words.specs.declared.choice.CommandChoice.TheVariants as choices
-use Rattle.cli_words.specs.declared.edid_flags.EdidFlags.{EdidFlags}
+use Rattle.cli_choice.specs.declared.choice.Asked.{Asked}
+use Rattle.cli_choice.specs.declared.choice.CommandChoice.{CommandChoice}
+use Rattle.cli_choice.specs.declared.choice.CommandChoice.TheVariants as choices
+use Rattle.cli_edid.specs.declared.flags.EdidFlags.{EdidFlags}
 use Rattle.cli_words.specs.declared.json_flags.JsonFlags.{JsonFlags}
 use Rattle.cli_words.specs.declared.mon_flags.MonFlags.{MonFlags}
 use Rattle.cli_words.specs.declared.run_flags.RunFlags.{RunFlags}
@@ -47,10 +47,10 @@ abbrev pub no_check_flags : CheckFlags
 no_check_flags = record { plain = false; trace = false; json = false; progress = false; capture = false; form = None; named = false; glitch = None; explains = false; waits = None }
 
 abbrev pub no_mon_flags : MonFlags
-no_mon_flags = record { form = None; named = false; glitch = None; margin = None; inverted = false; start = None; audit = false; timing = false; strict = false; folded = false; json = false; edges = false; follows = false; explains = false; waits = None }
+no_mon_flags = record { form = None; named = false; scale = None; glitch = None; margin = None; inverted = false; start = None; audit = false; timing = false; strict = false; folded = false; json = false; edges = false; summary = None; compares = false; follows = false; explains = false; waits = None }
 
 abbrev pub no_edid_flags : EdidFlags
-no_edid_flags = record { source = None; nth = None; reading = None; wanted = None; json = false; address = None; port = None; amplified = false; spoken = false; merges = false; rows = None; explains = false; waits = None }
+no_edid_flags = record { source = None; nth = None; reading = None; mends = false; wanted = None; eld = false; framed = false; json = false; address = None; port = None; amplified = false; spoken = false; merges = false; reads_eld = false; compares = false; rows = None; explains = false; waits = None }
 
 abbrev pub no_json_flags : JsonFlags
 no_json_flags = record { json = false; explains = false }

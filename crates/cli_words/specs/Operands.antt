@@ -2,13 +2,13 @@
 use Rattle.std.specs.Prelude.{ℕ, ◌+◌, ◌==◌, nat_le, List, [], ◌∷◌, ◌++◌, length, take, Bool, true, false, not, ◌&&◌, ◌||◌, if◌then◌else◌, codes, Option, Some, None, option_and_then}
 use Rattle.std.specs.Str.{bytes_eq}
 use Rattle.cli_words.specs.Line.{asked_by}
-use Rattle.cli_words.specs.declared.choice.Asked.{Asked}
-use Rattle.cli_words.specs.declared.choice.CommandChoice.{CommandChoice}
-use Rattle.cli_words.specs.declared.choice.CommandChoice.TheVariants.{Check, CheckCapture, Edid, Live}
-use Rattle.cli_words.specs.declared.choice.Source.{Source}
-use Rattle.cli_words.specs.declared.choice.Source.TheVariants.{Bytes, Pair}
-use Rattle.cli_words.specs.declared.choice.TestView.{TestView}
-use Rattle.cli_words.specs.declared.choice.TestView.TheVariants.{Report, Progress, Traced, Plain}
+use Rattle.cli_choice.specs.declared.choice.Asked.{Asked}
+use Rattle.cli_choice.specs.declared.choice.CommandChoice.{CommandChoice}
+use Rattle.cli_choice.specs.declared.choice.CommandChoice.TheVariants.{CaptureDiff, Check, CheckCapture, Edid, EdidDiff, InfoFrame, Live}
+use Rattle.cli_choice.specs.declared.choice.Source.{Source}
+use Rattle.cli_choice.specs.declared.choice.Source.TheVariants.{Bytes, Pair}
+use Rattle.cli_choice.specs.declared.choice.TestView.{TestView}
+use Rattle.cli_choice.specs.declared.choice.TestView.TheVariants.{Report, Progress, Traced, Plain}
 use Rattle.cli_words.specs.declared.operands.Place.{Place}
 use Rattle.cli_words.specs.declared.operands.Place.TheVariants as place
 use Rattle.cli_words.specs.declared.operands.WordKind.{WordKind}
@@ -17,9 +17,9 @@ use Rattle.cli_words.specs.declared.operands.WordKind.TheVariants as kind
 -- a flag that a value follows, as a word of its own
 abbrev pub takes_value : List ℕ → Bool
 takes_value word =
-    bytes_eq word (codes "--as") || bytes_eq word (codes "--from") || bytes_eq word (codes "--signal") || bytes_eq word (codes "--glitch")
-    || bytes_eq word (codes "--margin") || bytes_eq word (codes "--address") || bytes_eq word (codes "--port") || bytes_eq word (codes "--below")
-    || bytes_eq word (codes "--speakers") || bytes_eq word (codes "--rows") || bytes_eq word (codes "--nth")
+    bytes_eq word (codes "--as") || bytes_eq word (codes "--from") || bytes_eq word (codes "--signal") || bytes_eq word (codes "--scale")
+    || bytes_eq word (codes "--glitch") || bytes_eq word (codes "--margin") || bytes_eq word (codes "--replay") || bytes_eq word (codes "--address") || bytes_eq word (codes "--port") || bytes_eq word (codes "--below")
+    || bytes_eq word (codes "--speakers") || bytes_eq word (codes "--rows") || bytes_eq word (codes "--infoframe") || bytes_eq word (codes "--nth")
 
 -- it begins with `-`, and is more
 abbrev pub is_flag : List ℕ → Bool
@@ -85,20 +85,23 @@ is_report (Check view) = is_report_view view
 is_report (CheckCapture form glitch) = true
 is_report choice = false
 
--- what is read are two EDIDs
+-- what is read are two EDIDs, or two captures
 abbrev pub is_pair_source : Source → Bool
 is_pair_source (Pair dumps table) = true
 is_pair_source source = false
 
 abbrev pub is_pair : CommandChoice → Bool
+is_pair (CaptureDiff pair) = true
+is_pair (EdidDiff dumps form) = true
 is_pair (Edid (Some source) reading view) = is_pair_source source
+is_pair (InfoFrame (Some source) reading place form) = is_pair_source source
 is_pair choice = false
 
 abbrev pub is_session : CommandChoice → Bool
 is_session (Live json) = true
 is_session choice = false
 
--- A choice takes so many operands: one, two EDIDs, and any number of inputs that reports are made of. A session reads standard input
+-- A choice takes so many operands: one, two EDIDs or captures, and any number of inputs that reports are made of. A session reads standard input
 -- alone, whose lines come while it answers.
 abbrev pub takes : CommandChoice → ℕ → Bool
 takes choice count = (count == 0) || ((count == 1) && not (is_session choice)) || ((count == 2) && is_pair choice) || is_report choice
@@ -115,6 +118,7 @@ is_file (operand ∷ operands) = not (bytes_eq operand (codes "-"))
 -- what a file is read for: of an EDID's file of which no flag says what it holds, its first bytes do
 abbrev pub of_file : CommandChoice → CommandChoice
 of_file (Edid (Some Bytes) reading view) = Edid None reading view
+of_file (InfoFrame (Some Bytes) reading place form) = InfoFrame None reading place form
 of_file choice = choice
 
 -- what words ask for, of these operands

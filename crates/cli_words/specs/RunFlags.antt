@@ -4,13 +4,13 @@ use Rattle.std.specs.Option.{option_map}
 use Rattle.std.specs.Str.{bytes_eq}
 use Rattle.capture_forms.specs.declared.form.CaptureForm.{CaptureForm}
 use Rattle.capture_forms.specs.declared.form.CaptureForm.TheVariants.{Edges, Vcd, Pin, Csv}
-use Rattle.cli_words.specs.Joined.{joined}
-use Rattle.cli_words.specs.declared.choice.Asked.{Asked}
-use Rattle.cli_words.specs.declared.choice.CommandChoice.{CommandChoice}
-use Rattle.cli_words.specs.declared.choice.CommandChoice.TheVariants.{Run, Json}
-use Rattle.cli_words.specs.declared.choice.Objects.TheVariants as objects
-use Rattle.cli_words.specs.declared.choice.Listing.{Listing}
-use Rattle.cli_words.specs.declared.choice.Listing.TheVariants.{Trace, Line, Drives, Named}
+use Rattle.cli_choice.specs.Joined.{joined}
+use Rattle.cli_choice.specs.declared.choice.Asked.{Asked}
+use Rattle.cli_choice.specs.declared.choice.CommandChoice.{CommandChoice}
+use Rattle.cli_choice.specs.declared.choice.CommandChoice.TheVariants.{Run, Json}
+use Rattle.cli_choice.specs.declared.choice.Objects.TheVariants as objects
+use Rattle.cli_choice.specs.declared.choice.Listing.{Listing}
+use Rattle.cli_choice.specs.declared.choice.Listing.TheVariants.{Trace, Line, Drives, Named}
 use Rattle.cli_words.specs.declared.run_flags.RunFlags.{RunFlags}
 
 -- the format of a line that a word names

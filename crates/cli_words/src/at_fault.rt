@@ -6,11 +6,11 @@ ghost use Rattle.cli_words.specs.Line.{asked_by};
 ghost use Rattle.cli_words.specs.declared.at_fault.Valued.{Valued as ValuedOf};
 
 use crate::check_flags::{CheckFlags, with_check_flag, with_check_word};
-use crate::edid_flags::{EdidFlags, EdidValue, with_edid_flag, with_edid_word};
-use crate::joined::joined;
 use crate::mon_flags::{MonFlags, MonValue, with_mon_flag, with_mon_word};
 use crate::run_flags::{RunFlags, with_run_flag, with_run_word};
 use crate::subcommand::{Subcommand, subcommand_of};
+use cli_choice::joined;
+use cli_edid::{EdidFlags, EdidValue, with_edid_flag, with_edid_word};
 
 /// A flag that a value follows.
 #[derive(Clone, Copy, Debug)]
@@ -18,14 +18,19 @@ pub enum Valued {
     As,
     From,
     Signal,
+    Scale,
     Glitch,
     Margin,
+    Replay,
     Address,
     Port,
     Below,
     Speakers,
     Rows,
     Nth,
+    /// `--as` of `edid`.
+    EdidAs,
+    InfoFrame,
 }
 
 /// The flags of a subcommand, read word by word.
@@ -73,8 +78,10 @@ fn capture_flag(value: MonValue) -> Valued
     match value {
         MonValue::From => Valued::From,
         MonValue::Signal => Valued::Signal,
+        MonValue::Scale => Valued::Scale,
         MonValue::Glitch => Valued::Glitch,
         MonValue::Margin => Valued::Margin,
+        MonValue::Replay => Valued::Replay,
     }
 }
 
@@ -125,6 +132,8 @@ fn edid_flag(value: EdidValue) -> Valued
         EdidValue::Speakers => Valued::Speakers,
         EdidValue::Rows => Valued::Rows,
         EdidValue::Nth => Valued::Nth,
+        EdidValue::As => Valued::EdidAs,
+        EdidValue::InfoFrame => Valued::InfoFrame,
     }
 }
 

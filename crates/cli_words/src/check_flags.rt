@@ -2,11 +2,9 @@
 ghost use Rattle.std.specs.Prelude.{◌≡◌, map, string_bytes, option_and_then};
 ghost use Rattle.cli_words.specs.CheckFlags.{capture_choice, check_asked, check_choice, check_flags, has_capture_flag, of_capture, of_run, run_choice, test_view, waited_check, with_check_flag, with_check_value, with_check_word, with_progress};
 
-use crate::choice::{Asked, CommandChoice, Objects, TestView};
-use crate::joined::joined;
-use crate::micros::micros_of;
 use crate::mon_flags::{MonValue, form_of, has_names};
 use capture_forms::CaptureForm;
+use cli_choice::{Asked, CommandChoice, Objects, TestView, joined, micros_of};
 
 /// The flags that `check` was given.
 #[derive(Clone, Copy)]
@@ -17,7 +15,7 @@ pub struct CheckFlags {
     pub progress: bool,
     pub capture: bool,
     pub form: Option<CaptureForm>,
-    /// Whether `--signal` names a wire, which `signal_in` returns.
+    /// Whether `--signal` names a wire, which `named_in` returns.
     pub named: bool,
     pub glitch: Option<u64>,
     pub explains: bool,
@@ -67,7 +65,7 @@ fn with_check_value(flags: CheckFlags, value: MonValue, word: &str) -> Option<Ch
                 ..flags
             })
         }
-        MonValue::Margin => None,
+        MonValue::Scale | MonValue::Margin | MonValue::Replay => None,
     }
 }
 

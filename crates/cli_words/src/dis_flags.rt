@@ -2,8 +2,7 @@
 ghost use Rattle.std.specs.Prelude.{◌≡◌, map, string_bytes};
 ghost use Rattle.cli_words.specs.DisFlags.{dis_asked, dis_flags, one_dis_flag};
 
-use crate::choice::{Asked, CommandChoice};
-use crate::form::form_by;
+use cli_choice::{Asked, CommandChoice, form_by};
 
 /// The flags that `dis` was given.
 #[derive(Clone, Copy)]

@@ -2,8 +2,7 @@
 ghost use Rattle.std.specs.Prelude.{◌≡◌, map, string_bytes};
 ghost use Rattle.cli_words.specs.JsonFlags.{json_flags, lay_asked, live_asked, one_json_flag, step_asked};
 
-use crate::choice::{Asked, CommandChoice};
-use crate::form::form_by;
+use cli_choice::{Asked, CommandChoice, form_by};
 
 /// The flags that such a subcommand was given.
 #[derive(Clone, Copy)]

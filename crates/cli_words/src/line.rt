@@ -3,13 +3,13 @@ ghost use Rattle.std.specs.Prelude.{◌≡◌, map, string_bytes};
 ghost use Rattle.cli_words.specs.Line.{asked_as, asked_by, asked_of, asked_with, only_explained};
 
 use crate::check_flags::{CheckFlags, check_asked, check_flags};
-use crate::choice::{Asked, CommandChoice};
 use crate::dis_flags::{DisFlags, dis_asked, dis_flags};
-use crate::edid_flags::{EdidFlags, edid_asked, edid_flags};
 use crate::json_flags::{JsonFlags, json_flags, lay_asked, live_asked, step_asked};
 use crate::mon_flags::{MonFlags, mon_asked, mon_flags};
 use crate::run_flags::{RunFlags, run_asked, run_flags};
 use crate::subcommand::{Subcommand, subcommand_of};
+use cli_choice::{Asked, CommandChoice};
+use cli_edid::{EdidFlags, edid_asked, edid_flags};
 
 // What a subcommand asks for that has no flag but `--explain`.
 fn only_explained(choice: CommandChoice, words: &[String]) -> Option<Asked>

@@ -1,14 +1,15 @@
 //! The flags of `mon`.
-ghost use Rattle.std.specs.Prelude.{◌≡◌, map, string_bytes, Some, None, MatchOption, option_and_then};
-ghost use Rattle.cli_words.specs.MonFlags.{asks_of_readings, follow_choice, form_of, follow_report, has_names, line_choice, line_form, margin_of, is_misfit, joined_signal, mon_asked, mon_flags, mon_report, signal_in, waited_mon, with_mon_flag, with_mon_value, with_mon_word};
+ghost use Rattle.std.specs.Prelude.{◌≡◌, map, string_bytes, option_and_then};
+ghost use Rattle.cli_words.specs.MonFlags.{address_of, asks_of_lines, asks_of_readings, follow_choice, pair_choice, one_choice, form_of, follow_report, has_names, line_choice, line_form, margin_of, is_misfit, mon_asked, mon_choice, mon_flags, mon_report, goes_with, readings_choice, summary_choice, waited_mon, with_mon_flag, with_mon_value, with_mon_word, with_reading_flag, with_whole_flag};
 
-use crate::choice::{Asked, CaptureReport, CommandChoice, FollowChoice, FollowReport, MonChoice};
-use crate::form::form_by;
-use crate::joined::joined;
-use crate::micros::micros_of;
 use capture_forms::CaptureForm;
+use capture_scale::{AS_IT_IS, scale_of};
+use cli_choice::{
+    Asked, CapturePair, CaptureReport, CaptureSummary, CommandChoice, FollowChoice, FollowReport,
+    MonChoice, SummaryChoice, form_by, joined, micros_of,
+};
 use follow_core::LineForm;
-use text_core::{after, before, number_in};
+use text_core::{digit_value, is_hex_digit, number_in};
 
 /// The most by which windows are made wider, in microseconds.
 const MOST_MARGIN: u64 = 300;
@@ -18,16 +19,20 @@ const MOST_MARGIN: u64 = 300;
 pub enum MonValue {
     From,
     Signal,
+    Scale,
     Glitch,
     Margin,
+    Replay,
 }
 
 /// The flags that `mon` was given.
 #[derive(Clone, Copy)]
 pub struct MonFlags {
     pub form: Option<CaptureForm>,
-    /// Whether `--signal` names a wire, which `signal_in` returns.
+    /// Whether `--signal` names a wire, which `named_in` returns.
     pub named: bool,
+    /// The factor of its times, in ten-thousandths.
+    pub scale: Option<u64>,
     pub glitch: Option<u64>,
     pub margin: Option<u64>,
     pub inverted: bool,
@@ -40,6 +45,10 @@ pub struct MonFlags {
     pub json: bool,
     /// Whether the line itself is written, as an edge file.
     pub edges: bool,
+    /// What is said of the whole in place of its readings.
+    pub summary: Option<CaptureSummary>,
+    /// Whether two captures are compared.
+    pub compares: bool,
     /// Whether readings are written as they come.
     pub follows: bool,
     pub explains: bool,
@@ -52,6 +61,7 @@ impl MonFlags {
     pub const NONE: MonFlags = MonFlags {
         form: None,
         named: false,
+        scale: None,
         glitch: None,
         margin: None,
         inverted: false,
@@ -62,6 +72,8 @@ impl MonFlags {
         folded: false,
         json: false,
         edges: false,
+        summary: None,
+        compares: false,
         follows: false,
         explains: false,
         waits: None,
@@ -91,6 +103,16 @@ fn margin_of(word: &[u8]) -> Option<u64>
     }
 }
 
+// The logical address of a device: 0 to e.
+fn address_of(word: &[u8]) -> Option<u8>
+    ensures { result ≡ address_of word.now }
+{
+    if word.len() != 1 || !is_hex_digit(word[0]) || word[0] == b'f' {
+        return None;
+    }
+    Some(digit_value(word[0]))
+}
+
 // The flags with the value of the last.
 fn with_mon_value(flags: MonFlags, value: MonValue, word: &str) -> Option<MonFlags>
     ensures { result ≡ with_mon_value flags value word.now }
@@ -109,6 +131,14 @@ fn with_mon_value(flags: MonFlags, value: MonValue, word: &str) -> Option<MonFla
             waits: None,
             ..flags
         }),
+        MonValue::Scale => {
+            let scale = scale_of(word)?;
+            Some(MonFlags {
+                scale: Some(scale),
+                waits: None,
+                ..flags
+            })
+        }
         MonValue::Glitch => {
             let glitch = micros_of(word.as_bytes())?;
             Some(MonFlags {
@@ -125,12 +155,61 @@ fn with_mon_value(flags: MonFlags, value: MonValue, word: &str) -> Option<MonFla
                 ..flags
             })
         }
+        MonValue::Replay => {
+            let address = address_of(word.as_bytes())?;
+            Some(MonFlags {
+                summary: Some(CaptureSummary::Replay(address)),
+                waits: None,
+                ..flags
+            })
+        }
     }
 }
 
-/// The flags with one more. Each stands once at most, and those that exclude one another not together.
-pub(crate) fn with_mon_flag(flags: MonFlags, word: &str) -> Option<MonFlags>
-    ensures { result ≡ with_mon_flag flags word.now }
+// The flags with one that says what is made of a capture as a whole, or how it comes.
+fn with_whole_flag(flags: MonFlags, word: &str) -> Option<MonFlags>
+    ensures { result ≡ with_whole_flag flags word.now }
+{
+    match word {
+        "--edges" if !flags.edges => Some(MonFlags {
+            edges: true,
+            ..flags
+        }),
+        "--report" if flags.summary.is_none() => Some(MonFlags {
+            summary: Some(CaptureSummary::Devices),
+            ..flags
+        }),
+        "--verdict" if flags.summary.is_none() => Some(MonFlags {
+            summary: Some(CaptureSummary::Verdict),
+            ..flags
+        }),
+        "--as-test" if flags.summary.is_none() => Some(MonFlags {
+            summary: Some(CaptureSummary::Test),
+            ..flags
+        }),
+        "--replay" if flags.summary.is_none() => Some(MonFlags {
+            waits: Some(MonValue::Replay),
+            ..flags
+        }),
+        "--diff" if !flags.compares => Some(MonFlags {
+            compares: true,
+            ..flags
+        }),
+        "--follow" if !flags.follows => Some(MonFlags {
+            follows: true,
+            ..flags
+        }),
+        "--explain" if !flags.explains => Some(MonFlags {
+            explains: true,
+            ..flags
+        }),
+        _ => None,
+    }
+}
+
+// The flags with one that says how a capture is read, and which readings are written.
+fn with_reading_flag(flags: MonFlags, word: &str) -> Option<MonFlags>
+    ensures { result ≡ with_reading_flag flags word.now }
 {
     match word {
         "--from" if flags.form.is_none() => Some(MonFlags {
@@ -139,6 +218,10 @@ pub(crate) fn with_mon_flag(flags: MonFlags, word: &str) -> Option<MonFlags>
         }),
         "--signal" if !flags.named => Some(MonFlags {
             waits: Some(MonValue::Signal),
+            ..flags
+        }),
+        "--scale" if flags.scale.is_none() => Some(MonFlags {
+            waits: Some(MonValue::Scale),
             ..flags
         }),
         "--glitch" if flags.glitch.is_none() => Some(MonFlags {
@@ -181,20 +264,15 @@ pub(crate) fn with_mon_flag(flags: MonFlags, word: &str) -> Option<MonFlags>
             json: true,
             ..flags
         }),
-        "--edges" if !flags.edges => Some(MonFlags {
-            edges: true,
-            ..flags
-        }),
-        "--follow" if !flags.follows => Some(MonFlags {
-            follows: true,
-            ..flags
-        }),
-        "--explain" if !flags.explains => Some(MonFlags {
-            explains: true,
-            ..flags
-        }),
         _ => None,
     }
+}
+
+/// The flags with one more. Each stands once at most, and those that exclude one another not together.
+pub(crate) fn with_mon_flag(flags: MonFlags, word: &str) -> Option<MonFlags>
+    ensures { result ≡ with_mon_flag flags word.now }
+{
+    with_reading_flag(flags, word).or(with_whole_flag(flags, word))
 }
 
 // The flags with a flag that waits for this value.
@@ -269,30 +347,39 @@ fn line_form(form: Option<CaptureForm>) -> Option<LineForm>
 }
 
 // What is written of a capture as it comes: its readings where no flag says it.
-fn follow_report(report: Option<CaptureReport>) -> Option<FollowReport>
-    ensures { result ≡ follow_report report }
+fn follow_report(report: Option<CaptureReport>, folded: bool) -> FollowReport
+    ensures { result ≡ follow_report report folded }
 {
+    let Some(report) = report else {
+        return FollowReport::Readings {
+            from_idle: false,
+            folded,
+        };
+    };
     match report {
-        None => Some(FollowReport::Readings),
-        Some(report) => match report {
-            CaptureReport::Readings => Some(FollowReport::Readings),
-            CaptureReport::FromIdle => None,
-            CaptureReport::Audit { timing, strict } => Some(FollowReport::Audit { timing, strict }),
+        CaptureReport::Readings => FollowReport::Readings {
+            from_idle: false,
+            folded,
         },
+        CaptureReport::FromIdle => FollowReport::Readings {
+            from_idle: true,
+            folded,
+        },
+        CaptureReport::Audit { timing, strict } => FollowReport::Audit { timing, strict },
     }
 }
 
-// What a capture reports as it comes.
+// What a capture reports as it comes, with its times as they stand.
 fn follow_choice(flags: &MonFlags) -> Option<CommandChoice>
     ensures { result ≡ follow_choice flags.now }
 {
-    if flags.folded {
+    let audited = flags.audit || flags.timing;
+    if (flags.folded && audited) || flags.scale.is_some() {
         return None;
     }
     let form = line_form(flags.form)?;
-    let audited = flags.audit || flags.timing;
     let report = mon_report(flags.start, audited, flags.timing, flags.strict)?;
-    let report = follow_report(report)?;
+    let report = follow_report(report, flags.folded);
     Some(CommandChoice::Follow(FollowChoice {
         form,
         glitch: flags.glitch.unwrap_or(0),
@@ -303,18 +390,22 @@ fn follow_choice(flags: &MonFlags) -> Option<CommandChoice>
     }))
 }
 
-// Whether a flag asks for something of readings, or as they come.
+// Whether a flag says which lines there are of readings, or that they come one by one.
+fn asks_of_lines(flags: &MonFlags) -> bool
+    ensures { result ≡ asks_of_lines flags.now }
+{
+    flags.start.is_some() || flags.audit || flags.timing || flags.folded || flags.follows
+}
+
+// Whether a flag asks for something of readings.
 fn asks_of_readings(flags: &MonFlags) -> bool
     ensures { result ≡ asks_of_readings flags.now }
 {
-    flags.margin.is_some()
-        || flags.start.is_some()
-        || flags.audit
-        || flags.timing
+    asks_of_lines(flags)
+        || flags.margin.is_some()
         || flags.strict
-        || flags.folded
+        || flags.summary.is_some()
         || flags.json
-        || flags.follows
 }
 
 // The line of a capture, of which nothing is read.
@@ -327,8 +418,104 @@ fn line_choice(flags: &MonFlags) -> Option<CommandChoice>
     Some(CommandChoice::CapturedLine {
         form: flags.form,
         inverted: flags.inverted,
+        scale: flags.scale.unwrap_or(AS_IT_IS),
         glitch: flags.glitch.unwrap_or(0),
     })
+}
+
+// Whether the flags go with what is said of a whole capture. A verdict, a test and a replay go by no margin and have no remarks; a test
+// and a replay are no records.
+fn goes_with(flags: &MonFlags, summary: CaptureSummary) -> bool
+    ensures { result ≡ goes_with flags.now summary }
+{
+    match summary {
+        CaptureSummary::Devices => true,
+        CaptureSummary::Verdict => flags.margin.is_none() && !flags.strict,
+        CaptureSummary::Test | CaptureSummary::Replay(_) => flags.margin.is_none()
+            && !flags.strict
+            && !flags.json,
+    }
+}
+
+// What is said of a whole capture.
+fn summary_choice(flags: &MonFlags, summary: CaptureSummary) -> Option<CommandChoice>
+    ensures { result ≡ summary_choice flags.now summary }
+{
+    if asks_of_lines(flags) || !goes_with(flags, summary) {
+        return None;
+    }
+    Some(CommandChoice::Summary(SummaryChoice {
+        form: flags.form,
+        scale: flags.scale.unwrap_or(AS_IT_IS),
+        glitch: flags.glitch.unwrap_or(0),
+        margin: flags.margin.unwrap_or(0),
+        inverted: flags.inverted,
+        summary,
+        strict: flags.strict,
+        written: form_by(flags.json),
+    }))
+}
+
+// Where two captures differ, of which each is read as the other.
+fn pair_choice(flags: &MonFlags) -> Option<CommandChoice>
+    ensures { result ≡ pair_choice flags.now }
+{
+    if asks_of_lines(flags) || flags.strict || flags.summary.is_some() || flags.edges {
+        return None;
+    }
+    Some(CommandChoice::CaptureDiff(CapturePair {
+        form: flags.form,
+        scale: flags.scale.unwrap_or(AS_IT_IS),
+        glitch: flags.glitch.unwrap_or(0),
+        margin: flags.margin.unwrap_or(0),
+        inverted: flags.inverted,
+        written: form_by(flags.json),
+    }))
+}
+
+// The readings of a capture, or its audit.
+fn readings_choice(flags: &MonFlags) -> Option<CommandChoice>
+    ensures { result ≡ readings_choice flags.now }
+{
+    let audited = flags.audit || flags.timing;
+    let report = mon_report(flags.start, audited, flags.timing, flags.strict)?;
+    Some(CommandChoice::Mon(MonChoice {
+        form: flags.form,
+        scale: flags.scale.unwrap_or(AS_IT_IS),
+        glitch: flags.glitch.unwrap_or(0),
+        margin: flags.margin.unwrap_or(0),
+        inverted: flags.inverted,
+        folded: flags.folded,
+        report,
+        written: form_by(flags.json),
+    }))
+}
+
+// What is written of one capture.
+fn one_choice(flags: &MonFlags) -> Option<CommandChoice>
+    ensures { result ≡ one_choice flags.now }
+{
+    if flags.edges {
+        return line_choice(flags);
+    }
+    if let Some(summary) = flags.summary {
+        return summary_choice(flags, summary);
+    }
+    if flags.follows {
+        return follow_choice(flags);
+    }
+    readings_choice(flags)
+}
+
+// What is written of a capture, or of two.
+fn mon_choice(flags: &MonFlags) -> Option<CommandChoice>
+    ensures { result ≡ mon_choice flags.now }
+{
+    if flags.compares {
+        pair_choice(flags)
+    } else {
+        one_choice(flags)
+    }
 }
 
 // Whether a value is missing, or a wire has no name.
@@ -345,58 +532,9 @@ pub fn mon_asked(flags: &MonFlags) -> Option<Asked>
     if is_misfit(flags) {
         return None;
     }
-    if flags.edges {
-        let choice = line_choice(flags)?;
-        return Some(Asked {
-            choice,
-            explains: flags.explains,
-        });
-    }
-    if flags.follows {
-        let choice = follow_choice(flags)?;
-        return Some(Asked {
-            choice,
-            explains: flags.explains,
-        });
-    }
-    let audited = flags.audit || flags.timing;
-    let report = mon_report(flags.start, audited, flags.timing, flags.strict)?;
-    let mon = MonChoice {
-        form: flags.form,
-        glitch: flags.glitch.unwrap_or(0),
-        margin: flags.margin.unwrap_or(0),
-        inverted: flags.inverted,
-        folded: flags.folded,
-        report,
-        written: form_by(flags.json),
-    };
+    let choice = mon_choice(flags)?;
     Some(Asked {
-        choice: CommandChoice::Mon(mon),
+        choice,
         explains: flags.explains,
     })
-}
-
-// The value that stands in the word of `--signal`, as `--signal=NAME`.
-fn joined_signal(word: &[u8]) -> Option<&[u8]>
-    ensures { MatchOption result (joined_signal word.now ≡ None) (λ name. joined_signal word.now ≡ Some name.now) }
-{
-    if before(word, 9) == b"--signal=".as_slice() {
-        Some(after(word, 9))
-    } else {
-        None
-    }
-}
-
-/// The name of a wire: what stands after the first `--signal`, as a word of its own or in the same word.
-pub fn signal_in(words: &[String]) -> Option<&[u8]>
-    ensures { MatchOption result (signal_in (map string_bytes words.now) ≡ None) (λ name. signal_in (map string_bytes words.now) ≡ Some name.now) }
-{
-    match words {
-        [] => None,
-        [word, name, ..] if word.as_str() == "--signal" => Some(name.as_bytes()),
-        [word, rest @ ..] => match joined_signal(word.as_bytes()) {
-            Some(name) => Some(name),
-            None => signal_in(rest),
-        },
-    }
 }

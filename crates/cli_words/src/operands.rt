@@ -2,8 +2,8 @@
 ghost use Rattle.std.specs.Prelude.{◌≡◌, ◌++◌, ◌∷◌, [], true, IfOk, IfSome, OnOk, length, map, string_bytes};
 ghost use Rattle.cli_words.specs.Operands.{asked_on, goes_with, has_standard_input, is_file, is_flag, is_pair, is_report, is_session, kind_of, of_file, of_operands, operands_from, operands_in, place_after, takes, takes_value, words_from, words_in};
 
-use crate::choice::{Asked, CommandChoice, Source, TestView};
 use crate::line::asked_by;
+use cli_choice::{Asked, CommandChoice, Source, TestView};
 use std::alloc::{AllocError, Global};
 
 /// The operand that is standard input.
@@ -55,13 +55,16 @@ fn takes_value(word: &str) -> bool
         "--as"
         | "--from"
         | "--signal"
+        | "--scale"
         | "--glitch"
         | "--margin"
+        | "--replay"
         | "--address"
         | "--port"
         | "--below"
         | "--speakers"
         | "--rows"
+        | "--infoframe"
         | "--nth" => true,
         _ => false,
     }
@@ -180,12 +183,15 @@ pub fn is_report(choice: CommandChoice) -> bool
     }
 }
 
-// Whether a choice takes two EDIDs.
+// Whether a choice takes two EDIDs, or two captures.
 fn is_pair(choice: CommandChoice) -> bool
     ensures { result ≡ is_pair choice }
 {
     match choice {
-        CommandChoice::Edid { source, .. } => matches!(source, Some(Source::Pair { .. })),
+        CommandChoice::CaptureDiff(_) | CommandChoice::EdidDiff { .. } => true,
+        CommandChoice::Edid { source, .. } | CommandChoice::InfoFrame { source, .. } => {
+            matches!(source, Some(Source::Pair { .. }))
+        }
         _ => false,
     }
 }
@@ -227,6 +233,17 @@ fn of_file(choice: CommandChoice) -> CommandChoice
             source: None,
             reading,
             view,
+        },
+        CommandChoice::InfoFrame {
+            source: Some(Source::Bytes),
+            reading,
+            place,
+            form,
+        } => CommandChoice::InfoFrame {
+            source: None,
+            reading,
+            place,
+            form,
         },
         _ => choice,
     }

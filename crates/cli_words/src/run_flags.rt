@@ -2,9 +2,8 @@
 ghost use Rattle.std.specs.Prelude.{◌≡◌, map, option_and_then, string_bytes};
 ghost use Rattle.cli_words.specs.RunFlags.{format_named, one_run_flag, run_asked, run_choice, run_flags, waited_run, with_run_value, with_run_word};
 
-use crate::choice::{Asked, CommandChoice, Listing, Objects};
-use crate::joined::joined;
 use capture_forms::CaptureForm;
+use cli_choice::{Asked, CommandChoice, Listing, Objects, joined};
 
 /// The flags that `run` was given.
 #[derive(Clone, Copy)]

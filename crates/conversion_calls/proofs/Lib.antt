@@ -1,2 +1,3 @@
 mod PortLemmas
 mod Parts
+mod RowTexts

@@ -7,13 +7,15 @@ use Rattle.rules_check.specs.Findings.{findings}
 use Rattle.rules_check.specs.declared.rule.Origin.{Origin}
 use Rattle.conversion_calls.specs.Form.{form_text, parts_text}
 use Rattle.conversion_calls.specs.declared.form.EdidForm.{EdidForm}
-use Rattle.conversion_calls.specs.declared.form.EdidForm.TheVariants.{Text, Hex, Bytes}
+use Rattle.conversion_calls.specs.declared.form.EdidForm.TheVariants.{Text, Hex, Bytes, C, Xml}
 
 -- an EDID is written as its parts are
 pub form_whole : (form : EdidForm) (p : Edid) → parts_text form p.base p.extensions.items ≡ form_text form p
 form_whole Text p = refl
 form_whole Hex p = refl
 form_whole Bytes p = refl
+form_whole C p = refl
+form_whole Xml p = refl
 
 pub same_form : (form : EdidForm) (base : Base) (exts : List Ext) (p : Edid) → p.base ≡ base → p.extensions.items ≡ exts → parts_text form base exts ≡ form_text form p
 same_form form base exts p of_base of_exts =

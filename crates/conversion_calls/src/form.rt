@@ -5,6 +5,7 @@ ghost use Rattle.edid_base.specs.Base.{base_bytes};
 ghost use Rattle.edid_cta.specs.Ext.{ext_bytes};
 ghost use Rattle.conversion_calls.specs.Form.{form_text, hex_line, parts_text};
 
+use crate::programs::{write_c, write_xml};
 use arrayvec::ArrayVec;
 use edid_base::{Base, append, write_base};
 use edid_core::{Edid, append_extensions};
@@ -21,6 +22,10 @@ pub enum EdidForm {
     Hex,
     /// Its bytes as they are: 128, 256, 384 or 512.
     Bytes,
+    /// Its bytes as an array of C.
+    C,
+    /// Its bytes as the xml that `edid-decode -o xml` writes.
+    Xml,
 }
 
 // Writes bytes as one line of hex.
@@ -65,6 +70,8 @@ pub(crate) fn write_in<S: Sink>(
         EdidForm::Text => write_parts(base, extensions, out),
         EdidForm::Hex => write_hex_line(bytes_of(base, extensions.as_slice()).as_slice(), out),
         EdidForm::Bytes => write_bytes(bytes_of(base, extensions.as_slice()).as_slice(), out),
+        EdidForm::C => write_c(bytes_of(base, extensions.as_slice()).as_slice(), out),
+        EdidForm::Xml => write_xml(bytes_of(base, extensions.as_slice()).as_slice(), out),
     }
 }
 

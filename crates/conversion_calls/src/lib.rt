@@ -8,6 +8,7 @@ mod form;
 mod laws;
 mod passed_on;
 mod passing;
+mod programs;
 
 pub use edid_findings::edid_to_findings;
 pub use edid_text::{EdidToTextError, TextToHexError, edid_to_text, text_to_edid, text_to_hex};
@@ -15,3 +16,4 @@ pub use form::EdidForm;
 pub use laws::{ports_are_those_of_the_tree, televisions_pass_on_as_the_tree};
 pub use passed_on::{check_passed_on, write_address, write_passed_on};
 pub use passing::{Destination, PassOnError, Passing};
+pub use programs::{write_c, write_xml};

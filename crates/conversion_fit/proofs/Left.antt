@@ -18,7 +18,7 @@ or_false : (a : Bool) → a ≡ false → (a || false) ≡ false
 or_false true e = e
 or_false false e = refl
 
-kept_is : (a : Bool) → not a ≡ true → a ≡ false
+pub kept_is : (a : Bool) → not a ≡ true → a ≡ false
 kept_is true h = let no : ⊥ = cc in absurd no
 kept_is false h = refl
 
@@ -26,7 +26,7 @@ rest_none : (a b : Bool) → (a || b) ≡ false → b ≡ false
 rest_none true b h = let no : ⊥ = cc in absurd no
 rest_none false b h = h
 
-first_none : (a b : Bool) → (a || b) ≡ false → a ≡ false
+pub first_none : (a b : Bool) → (a || b) ≡ false → a ≡ false
 first_none true b h = h
 first_none false b h = refl
 
@@ -66,8 +66,9 @@ module _ (base : Base) (xs fit : List Ext) (h : AreFitted base xs xs fit) where
   exts_left (Cta c ∷ some) (Raw r ∷ ys) k = absurd k.0
   exts_left (Bare c ∷ some) (y ∷ ys) k =
       none_joined beyond (ext_timings y) (flat_map ext_timings ys) (ap (λ (e : Ext). list_any beyond (ext_timings e)) k.0) (exts_left some ys k.1)
-  exts_left (Raw r ∷ some) (y ∷ ys) k =
-      none_joined beyond (ext_timings y) (flat_map ext_timings ys) (ap (λ (e : Ext). list_any beyond (ext_timings e)) k.0) (exts_left some ys k.1)
+  exts_left (Raw r ∷ some) (Cta d ∷ ys) k = absurd k.0
+  exts_left (Raw r ∷ some) (Bare d ∷ ys) k = absurd k.0
+  exts_left (Raw r ∷ some) (Raw s ∷ ys) k = exts_left some ys k.1
 
   -- ---- descriptors
 

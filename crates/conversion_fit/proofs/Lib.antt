@@ -2,7 +2,9 @@ mod Zeros
 mod Choices
 mod Links
 mod NoCodes
+mod Sections
 mod Left
+mod NoTyped
 pub mod Law
 mod Sizes
 mod Packing

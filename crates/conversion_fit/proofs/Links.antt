@@ -10,18 +10,19 @@ use Rattle.edid_cta.specs.declared.block.BlockKind.TheVariants.{Tag0, Audio, Vid
 use Rattle.edid_base.specs.declared.base.Base.{Base}
 use Rattle.edid_cta.specs.declared.raw.Ext.{Ext}
 use Rattle.edid_cta.specs.declared.raw.Ext.TheVariants.{Cta, Bare, Raw}
+use Rattle.edid_displayid.specs.Formats.{block_formats, has_formats, is_extended, is_listing}
 use Rattle.edid_layout.specs.ForumBlock.{forum_block, identifier}
 use Rattle.edid_layout.specs.declared.forum_block.ForumBlock.{ForumBlock}
 use Rattle.edid_layout.specs.declared.hdmi_block.HdmiBlock.{HdmiBlock}
 use Rattle.edid_layout.specs.HdmiBlock.{hdmi_block, video_of, has_bit, video_place}
 use Rattle.rules_contents.specs.Contents.{has_extended_tag}
 use Rattle.rules_link.specs.Links.{carries, carries_characters, carries_fixed, hdmi_rate, is_beyond, is_carried}
-use Rattle.rules_link.specs.Offers.{is_code_beyond, is_some_beyond, load_of}
+use Rattle.rules_link.specs.Offers.{is_code_beyond, is_some_beyond, is_typed_beyond, load_of}
 use Rattle.rules_link.specs.declared.load.Load.{Load}
 use Rattle.rules_values.specs.BlockParts.{is_extended_kind, is_video_kind}
 use Rattle.rules_values.specs.ExtParts.{some_block}
 use Rattle.rules_values.specs.VideoCodes.{svds_of}
-use Rattle.conversion_fit.specs.Blocks.{Part, codes_place, fitted, fitted_blocks, fitted_bytes, fitted_map, is_cut, kept_codes, lists_codes, loses, part_of, stays, without_video}
+use Rattle.conversion_fit.specs.Blocks.{Part, codes_place, fitted, fitted_blocks, fitted_bytes, fitted_map, is_cut, is_emptied, kept_codes, lists_beyond, lists_codes, loses, part_of, stays, without_video}
 use Rattle.conversion_fit.specs.Whole.{AreFitted}
 use Rattle.conversion_fit.proofs.Choices.{any_alike, any_left, any_mapped, choose}
 
@@ -215,15 +216,51 @@ not_false : (a : Bool) → not a ≡ false → a ≡ true
 not_false true h = refl
 not_false false h = let no : ⊥ = cc in absurd no
 
-gone_nothing : (xs : List Ext) (svds : List ℕ) (b : DataBlock) → stays xs svds b ≡ false → Gives false false (part_of b)
-gone_nothing xs svds b h =
+emptied_nothing : (xs : List Ext) (svds : List ℕ) (b : DataBlock) → is_emptied xs svds b ≡ true → Gives false false (part_of b)
+emptied_nothing xs svds b gone =
     let k = b.kind in
     let p = b.payload.items in
     let some = nat_lt (codes_place b) (length p) in
     let last = length (fitted_bytes xs svds b) == codes_place b in
-    let gone = not_false (lists_codes b && some && last) h in
     either_nothing (block k p) (is_video_kind k) (has_extended_tag 0x0e b) (λ e. of_video k p e) (λ e. of_tagged k p 0x0e refl e)
     (front_true (lists_codes b) some (front_true (lists_codes b && some) last gone))
+
+-- the tags of formats of DisplayID are not that of the HDMI Forum's block
+no_forum_tag : (byte : ℕ) (some low : Bool) → ((byte == 0x22) || ((byte == 0x2a) || ((byte == 0x23) && low))) ≡ true → (some && (byte == 0x79)) ≡ false
+no_forum_tag byte true true h = grind (arith, nat_tests)
+no_forum_tag byte true false h = grind (arith, nat_tests)
+no_forum_tag byte false low h = refl
+
+back_true : (a b : Bool) → (a && b) ≡ true → b ≡ true
+back_true true b h = h
+back_true false b h = let no : ⊥ = cc in absurd no
+
+of_listing : (k : BlockKind) (p : List ℕ) → (is_extended k && is_listing p) ≡ true → Gives false false (block k p)
+of_listing Tag0 p h = let no : ⊥ = cc in absurd no
+of_listing Audio p h = let no : ⊥ = cc in absurd no
+of_listing Video p h = let no : ⊥ = cc in absurd no
+of_listing Vendor p h = let no : ⊥ = cc in absurd no
+of_listing Speakers p h = let no : ⊥ = cc in absurd no
+of_listing Tag5 p h = let no : ⊥ = cc in absurd no
+of_listing Tag6 p h = let no : ⊥ = cc in absurd no
+of_listing Extended p h = record {
+  hdmi = refl;
+  forum = no_forum_tag (slice_index p 0) (nat_lt 0 (length p)) (nat_lt (slice_index p 1) 64) (back_true (nat_le 2 (length p)) _ h);
+}
+
+any_if : {X : Type 0} (test : X → Bool) (c : Bool) (l : List X) → list_any test (if c then l else []) ≡ true → c ≡ true
+any_if test true l h = refl
+any_if test false l h = let no : ⊥ = cc in absurd no
+
+listing_nothing : (xs : List Ext) (b : DataBlock) → lists_beyond xs b ≡ true → Gives false false (part_of b)
+listing_nothing xs b h =
+    let p = b.payload.items in
+    of_listing b.kind p (any_if (is_typed_beyond xs) (has_formats b) (block_formats (slice_index p 0) (slice_index p 1) (drop 2 p)) h)
+
+gone_nothing : (xs : List Ext) (svds : List ℕ) (b : DataBlock) → stays xs svds b ≡ false → Gives false false (part_of b)
+gone_nothing xs svds b h =
+    either_nothing (part_of b) (lists_beyond xs b) (is_emptied xs svds b) (λ e. listing_nothing xs b e) (λ e. emptied_nothing xs svds b e)
+    (not_false (lists_beyond xs b || is_emptied xs svds b) h)
 
 -- ---- extensions
 
@@ -247,7 +284,9 @@ exts_kept base xs t u k (Cta c ∷ some) (Cta d ∷ fit) h =
 exts_kept base xs t u k (Cta c ∷ some) (Bare d ∷ fit) h = absurd h.0
 exts_kept base xs t u k (Cta c ∷ some) (Raw r ∷ fit) h = absurd h.0
 exts_kept base xs t u k (Bare c ∷ some) (y ∷ fit) h = ap₂ (λ (a b : Bool). a || b) (ap (λ (e : Ext). list_any t (blocks_of e)) h.0) (exts_kept base xs t u k some fit h.1)
-exts_kept base xs t u k (Raw r ∷ some) (y ∷ fit) h = ap₂ (λ (a b : Bool). a || b) (ap (λ (e : Ext). list_any t (blocks_of e)) h.0) (exts_kept base xs t u k some fit h.1)
+exts_kept base xs t u k (Raw r ∷ some) (Cta d ∷ fit) h = absurd h.0
+exts_kept base xs t u k (Raw r ∷ some) (Bare d ∷ fit) h = absurd h.0
+exts_kept base xs t u k (Raw r ∷ some) (Raw s ∷ fit) h = exts_kept base xs t u k some fit h.1
 
 hdmi_kept : (xs : List Ext) → Kept xs is_hdmi hdmi_in
 hdmi_kept xs = record {
@@ -267,7 +306,7 @@ pub beyond_same : (base : Base) (xs fit : List Ext) → AreFitted base xs xs fit
 beyond_same base xs fit h l =
     ap₂ (λ (a b : Bool). a && not b) (exts_kept base xs is_hdmi hdmi_in (hdmi_kept xs) xs fit h) (exts_kept base xs (carries l) (carries_in l) (carries_kept xs l) xs fit h)
 
-some_same : (base : Base) (xs fit : List Ext) → AreFitted base xs xs fit → (l : Option Load) → is_some_beyond fit l ≡ is_some_beyond xs l
+pub some_same : (base : Base) (xs fit : List Ext) → AreFitted base xs xs fit → (l : Option Load) → is_some_beyond fit l ≡ is_some_beyond xs l
 some_same base xs fit h None = refl
 some_same base xs fit h (Some l) = beyond_same base xs fit h l
 

@@ -116,7 +116,7 @@ none_each : {X Y : Type 0} (u : Y → Bool) (g : X → Y) → ((x : X) → u (g 
 none_each u g h [] = refl
 none_each u g h (x ∷ xs) = none_or (u (g x)) (list_any u (map g xs)) (h x) (none_each u g h xs)
 
-none_flat_each : {X Y : Type 0} (p : Y → Bool) (f : X → List Y) (xs : List X) → list_any (λ x. list_any p (f x)) xs ≡ false → list_any p (flat_map f xs) ≡ false
+pub none_flat_each : {X Y : Type 0} (p : Y → Bool) (f : X → List Y) (xs : List X) → list_any (λ x. list_any p (f x)) xs ≡ false → list_any p (flat_map f xs) ≡ false
 none_flat_each p f [] h = refl
 none_flat_each p f (x ∷ xs) h =
     none_joined p (f x) (flat_map f xs) (first_none (list_any p (f x)) (list_any (λ y. list_any p (f y)) xs) h)
@@ -214,8 +214,9 @@ module _ (base : Base) (xs fit : List Ext) (h : AreFitted base xs xs fit) where
   exts_none t u f g (Cta c ∷ some) (Raw r ∷ ys) k = absurd k.0
   exts_none t u f g (Bare c ∷ some) (y ∷ ys) k =
       none_or (list_any t (blocks_of y)) (some_block t ys) (ap (λ (e : Ext). list_any t (blocks_of e)) k.0) (exts_none t u f g some ys k.1)
-  exts_none t u f g (Raw r ∷ some) (y ∷ ys) k =
-      none_or (list_any t (blocks_of y)) (some_block t ys) (ap (λ (e : Ext). list_any t (blocks_of e)) k.0) (exts_none t u f g some ys k.1)
+  exts_none t u f g (Raw r ∷ some) (Cta d ∷ ys) k = absurd k.0
+  exts_none t u f g (Raw r ∷ some) (Bare d ∷ ys) k = absurd k.0
+  exts_none t u f g (Raw r ∷ some) (Raw s ∷ ys) k = exts_none t u f g some ys k.1
 
   shown_none : some_block (λ b. list_any (then_beyond false) (block_svds b)) fit ≡ false
   shown_none = exts_none (λ b. list_any (then_beyond false) (block_svds b)) shows (λ b. refl) part_shows xs fit h

@@ -1,16 +1,17 @@
 -- Data blocks without the formats that the link of an EDID does not carry (own): the codes of video blocks (CTA-861-G, section 7.5.1), those
--- in 4:2:0 alone (section 7.5.10), the map of those that are there in 4:2:0 too (section 7.5.11), and what an HDMI block says of formats
--- (HDMI 1.4b, section 8.3.2).
+-- in 4:2:0 alone (section 7.5.10), the map of those that are there in 4:2:0 too (section 7.5.11), what an HDMI block says of formats
+-- (HDMI 1.4b, section 8.3.2), and formats of DisplayID (CTA-861-I, sections 7.5.17 to 7.5.19).
 use Rattle.std.specs.Prelude.{ℕ, zero, suc, ◌+◌, ◌-◌, ◌*◌, ◌/◌, ◌%◌, ◌==◌, Bool, true, false, ◌&&◌, ◌||◌, not, nat_lt, if◌then◌else◌, List, [], ◌∷◌, length, take, drop, slice_index, map, filter, Option, Some, None}
 use Rattle.std.specs.List.{list_any}
 use Rattle.edid_cta.specs.Hdmi.{is_hdmi}
 use Rattle.edid_cta.specs.declared.block.BlockKind.{BlockKind}
 use Rattle.edid_cta.specs.declared.block.DataBlock.{DataBlock}
 use Rattle.edid_cta.specs.declared.raw.Ext.{Ext}
+use Rattle.edid_displayid.specs.Formats.{cta_formats}
 use Rattle.edid_layout.specs.HdmiBlock.{code_of_hdmi, video_place}
 use Rattle.edid_layout.specs.declared.hdmi_block.HdmiVideo.{HdmiVideo}
 use Rattle.rules_contents.specs.Contents.{has_extended_tag}
-use Rattle.rules_link.specs.Offers.{is_code_beyond}
+use Rattle.rules_link.specs.Offers.{is_code_beyond, is_typed_beyond}
 use Rattle.rules_rates.specs.Maps.{is_marked}
 use Rattle.rules_values.specs.BlockParts.{is_video_kind, hdmi_of, hdmi_codes}
 use Rattle.rules_values.specs.VideoCodes.{code_of, svds_of}
@@ -105,9 +106,17 @@ codes_place b = if is_video_kind b.kind then 0 else 1
 abbrev pub lists_codes : DataBlock → Bool
 lists_codes b = is_video_kind b.kind || has_extended_tag 0x0e b
 
--- a block stays but where its last code goes
+-- its last code goes
+abbrev pub is_emptied : List Ext → List ℕ → DataBlock → Bool
+is_emptied xs svds b = lists_codes b && nat_lt (codes_place b) (length b.payload.items) && (length (fitted_bytes xs svds b) == codes_place b)
+
+-- it lists a format of DisplayID that the link does not carry
+abbrev pub lists_beyond : List Ext → DataBlock → Bool
+lists_beyond xs b = list_any (is_typed_beyond xs) (cta_formats b)
+
+-- a block stays but for these two
 abbrev pub stays : List Ext → List ℕ → DataBlock → Bool
-stays xs svds b = not (lists_codes b && nat_lt (codes_place b) (length b.payload.items) && (length (fitted_bytes xs svds b) == codes_place b))
+stays xs svds b = not (lists_beyond xs b || is_emptied xs svds b)
 
 -- the places of codes are those among all video blocks
 abbrev pub fitted_blocks : List Ext → List DataBlock → List Part

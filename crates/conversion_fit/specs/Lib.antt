@@ -1,3 +1,5 @@
+pub mod Zeros
+pub mod Sections
 pub mod Blocks
 pub mod Timings
 pub mod Whole

@@ -1,5 +1,5 @@
 -- An EDID without the formats that its link does not carry (own), as a relation of the two.
-use Rattle.std.specs.Prelude.{◌≡◌, ℕ, ◌+◌, ◌-◌, ◌*◌, ◌/◌, Bool, if◌then◌else◌, List, [], ◌∷◌, length, flat_map, map, replicate}
+use Rattle.std.specs.Prelude.{◌≡◌, ℕ, ◌+◌, ◌*◌, ◌/◌, Bool, if◌then◌else◌, List, [], ◌∷◌, length, flat_map, map}
 use Rattle.std.specs.List.{list_any}
 use Rattle.edid_base.specs.Timing.{timing_bytes}
 use Rattle.edid_base.specs.declared.base.Base.{Base}
@@ -8,18 +8,17 @@ use Rattle.edid_cta.specs.Block.{block_bytes}
 use Rattle.edid_cta.specs.declared.cta.Cta.{Cta as CtaValue}
 use Rattle.edid_cta.specs.declared.raw.Ext.{Ext}
 use Rattle.edid_cta.specs.declared.raw.Ext.TheVariants.{Cta, Bare, Raw}
+use Rattle.edid_cta.specs.declared.raw.RawExt.{RawExt}
 use Rattle.rules_link.specs.Offers.{is_timing_beyond}
 use Rattle.rules_values.specs.ExtParts.{timings_of}
 use Rattle.conversion_fit.specs.Blocks.{fitted_blocks, part_of}
+use Rattle.conversion_fit.specs.Sections.{fitted_section}
 use Rattle.conversion_fit.specs.Timings.{leader, led_descriptors, led_timings}
+use Rattle.conversion_fit.specs.Zeros.{zeros_after}
 
 -- Of the flags the low four bits count native timings, the first ones (CTA-861-G, section 7.5): none where one goes.
 abbrev pub left_flags : Bool → ℕ → ℕ
 left_flags loses flags = if loses then flags / 16 * 16 else flags
-
--- zeros after so many bytes, up to the checksum
-abbrev pub zeros_after : ℕ → List ℕ
-zeros_after count = replicate (123 - count) 0
 
 pub record IsFittedCta (b : Base) (xs : List Ext) (c fitted : CtaValue) : Type 0 where
   pub flags : fitted.flags ≡ left_flags (list_any (is_timing_beyond xs) (timings_of b xs)) c.flags
@@ -27,10 +26,14 @@ pub record IsFittedCta (b : Base) (xs : List Ext) (c fitted : CtaValue) : Type 0
   pub timings : fitted.timings.items ≡ led_timings xs b.descriptors (leader xs b) c.timings.items
   pub tail : fitted.tail.items ≡ zeros_after (length (flat_map block_bytes fitted.blocks.items) + length (flat_map timing_bytes fitted.timings.items))
 
+abbrev pub IsFittedRaw : List Ext → RawExt → Ext → Type 0
+IsFittedRaw xs r (Raw s) = s.bytes ≡ fitted_section xs r.bytes
+IsFittedRaw xs r x = ⊥
+
 abbrev pub IsFittedExt : Base → List Ext → Ext → Ext → Type 0
 IsFittedExt b xs (Cta c) (Cta d) = IsFittedCta b xs c d
 IsFittedExt b xs (Bare c) x = x ≡ Bare c
-IsFittedExt b xs (Raw r) x = x ≡ Raw r
+IsFittedExt b xs (Raw r) x = IsFittedRaw xs r x
 IsFittedExt b xs x y = ⊥
 
 abbrev pub AreFitted : Base → List Ext → List Ext → List Ext → Type 0

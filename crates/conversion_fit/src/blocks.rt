@@ -2,15 +2,16 @@
 ghost use Rattle.std.specs.Prelude.{◌≡◌, ◌≤◌, ◌+◌, ◌-◌, ◌∷◌, ◌++◌, true, false, length, map, filter};
 ghost use Rattle.arrayvec.specs.ArrayVec.{array_vec_len};
 ghost use Rattle.edid_layout.specs.HdmiBlock.{video_place};
-ghost use Rattle.conversion_fit.specs.Blocks.{codes_place, fitted, fitted_blocks, fitted_map, has_places, is_cut, kept_codes, lists_codes, loses, part_of, stays, without_video};
+ghost use Rattle.conversion_fit.specs.Blocks.{codes_place, fitted, fitted_blocks, fitted_map, has_places, is_cut, is_emptied, kept_codes, lists_beyond, lists_codes, loses, part_of, stays, without_video};
 
 use crate::codes::{PAYLOAD, add_kept, add_map};
 use arrayvec::ArrayVec;
 use edid_base::append;
 use edid_cta::{BlockKind, DataBlock, Ext};
+use edid_displayid::cta_formats;
 use edid_layout::HdmiVideo;
 use rules_contents::has_extended_tag;
-use rules_link::{own_beyond, svds_beyond};
+use rules_link::{own_beyond, some_typed_beyond, svds_beyond};
 use rules_values::{MAX_CODES, hdmi_codes, hdmi_of, svds};
 use text_core::before;
 
@@ -161,13 +162,28 @@ fn codes_place(block: &DataBlock) -> usize
     }
 }
 
-/// Whether a block stays of which this is left: its last code has not gone.
+/// Whether the last code of a block goes, of which this is left.
+fn is_emptied(extensions: &[Ext], svds: &[u8], block: &DataBlock, left: &DataBlock) -> bool
+    requires { part_of left.now ≡ fitted extensions.now svds.now block.now }
+    ensures { result ≡ is_emptied extensions.now svds.now block.now }
+{
+    let place = codes_place(block);
+    lists_codes(block) && place < block.payload.len() && left.payload.len() == place
+}
+
+/// Whether a block lists a format of DisplayID that the link does not carry.
+fn lists_beyond(extensions: &[Ext], block: &DataBlock) -> bool
+    ensures { result ≡ lists_beyond extensions.now block.now }
+{
+    some_typed_beyond(extensions, cta_formats(block).as_slice())
+}
+
+/// Whether a block stays of which this is left.
 fn stays(extensions: &[Ext], svds: &[u8], block: &DataBlock, left: &DataBlock) -> bool
     requires { part_of left.now ≡ fitted extensions.now svds.now block.now }
     ensures { result ≡ stays extensions.now svds.now block.now }
 {
-    let place = codes_place(block);
-    !(lists_codes(block) && place < block.payload.len() && left.payload.len() == place)
+    !(lists_beyond(extensions, block) || is_emptied(extensions, svds, block, left))
 }
 
 /// Appends data blocks without the formats that the link does not carry.

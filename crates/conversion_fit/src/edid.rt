@@ -3,17 +3,18 @@ ghost use Rattle.std.specs.Prelude.{◌≡◌, ◌≤◌, ◌+◌, ◌*◌, ◌+
 ghost use Rattle.edid_cta.specs.declared.raw.Ext.{Ext as ExtValue};
 ghost use Rattle.edid_base.specs.Timing.{timing_bytes};
 ghost use Rattle.edid_cta.specs.Block.{block_bytes};
-ghost use Rattle.conversion_fit.specs.Whole.{AreFitted, IsFitted, IsFittedBase, IsFittedCta, IsFittedExt, left_flags, zeros_after};
+ghost use Rattle.conversion_fit.specs.Whole.{AreFitted, IsFitted, IsFittedBase, IsFittedCta, IsFittedExt, left_flags};
+ghost use Rattle.conversion_fit.specs.Zeros.{zeros_after};
 
 use crate::blocks::fitted_blocks;
+use crate::displayid::fitted_raw;
+use crate::tail::zeros_after;
 use crate::timings::{leader, led_descriptors, led_timings, some_lost};
 use arrayvec::ArrayVec;
-use edid_base::{Base, Timing, append};
+use edid_base::{Base, Timing};
 use edid_core::Edid;
 use edid_cta::{Cta, DataBlock, Ext};
 
-/// The bytes between the flags of an extension and its checksum.
-const BODY: usize = 123;
 /// The bytes of a timing.
 const TIMING: usize = 18;
 
@@ -33,17 +34,6 @@ fn count_of(blocks: &[DataBlock]) -> usize
         [] => 0,
         [block, rest @ ..] => 1 + block.payload.len() + count_of(rest),
     }
-}
-
-/// Zeros after so many bytes.
-#[tactic(auto, using(crate::proofs::Zeros::zeros_front))]
-fn zeros_after(count: usize) -> ArrayVec<u8, BODY>
-    requires { count ≤ 123 }
-    ensures { result.items ≡ zeros_after count }
-{
-    let mut tail = ArrayVec::new();
-    append(&mut tail, &[0; BODY][..BODY - count]);
-    tail
 }
 
 /// An extension of these parts, and zeros.
@@ -88,7 +78,8 @@ fn fitted_ext(base: &Base, extensions: &[Ext], ext: &Ext) -> Ext
 {
     match ext {
         Ext::Cta(cta) => Ext::Cta(fitted_cta(base, extensions, cta)),
-        Ext::Bare(_) | Ext::Raw(_) => ext.copy(),
+        Ext::Bare(bare) => Ext::Bare(*bare),
+        Ext::Raw(raw) => fitted_raw(extensions, raw),
     }
 }
 
@@ -115,8 +106,8 @@ fn fitted_base(extensions: &[Ext], base: &Base) -> Base
     fitted
 }
 
-/// The EDID without the formats that its link does not carry: without their video codes and timings, and with zeros after the timings that
-/// stay. Where the preferred timing goes, the one with the greatest picture stands in its place.
+/// The EDID without the formats that its link does not carry: without their video codes, timings and data blocks of DisplayID, and with zeros
+/// after the timings that stay. Where the preferred timing goes, the one with the greatest picture stands in its place.
 pub fn fitted_edid(edid: &Edid) -> Edid
     ensures { IsFitted edid.now result }
 {

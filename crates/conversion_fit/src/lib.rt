@@ -4,8 +4,10 @@
 mod answers;
 mod blocks;
 mod codes;
+mod displayid;
 mod edid;
 mod laws;
+mod tail;
 mod timings;
 
 pub use answers::merge_bytes;

@@ -43,7 +43,7 @@ fn append_ext_lines(page: &mut Page, bytes: &[u8])
 
 fn append_section(page: &mut Page, bytes: &[u8])
     requires few { length bytes.now ≤ 128 }
-    requires room { array_vec_len page.old ≤ 400 }
+    requires room { array_vec_len page.old ≤ 900 }
     ensures { page.new.items ≡ page.old.items ++ flat_map own_line (section_meanings bytes.now) }
 {
     if byte_at(bytes, 0) == DISPLAYID {

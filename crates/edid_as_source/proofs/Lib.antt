@@ -1,6 +1,7 @@
 mod Accepting
 mod Fronts
 mod Made
+mod Mending
 mod Noting
 mod Staying
 mod Strict

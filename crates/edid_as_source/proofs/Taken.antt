@@ -48,10 +48,10 @@ kept_sums (suc n) (suc k) blocks a h =
 kept_block : (front : List ℕ) → length front ≡ 127 → IsKept (block_with_checksum front)
 kept_block front h = (summed_is front, ap block_with_checksum (take_at front (check_of front ∷ []) 127 h))
 
-block_len : (front : List ℕ) → length front ≡ 127 → length (block_with_checksum front) ≡ 128
+pub block_len : (front : List ℕ) → length front ≡ 127 → length (block_with_checksum front) ≡ 128
 block_len front h = omega (arith, h, length-append front (check_of front ∷ []))
 
-kept_onto : (n : ℕ) (front others : List ℕ) → length front ≡ 127 → AreKept n others → AreKept (suc n) (block_with_checksum front ++ others)
+pub kept_onto : (n : ℕ) (front others : List ℕ) → length front ≡ 127 → AreKept n others → AreKept (suc n) (block_with_checksum front ++ others)
 kept_onto n front others h k =
     let size = block_len front h in (
       omega (arith, length-append (block_with_checksum front) others, size),
@@ -61,7 +61,7 @@ kept_onto n front others h k =
 
 -- ---- those that are taken
 
-front_len : (rest : List ℕ) → 128 ≤ length rest → length (take 127 (take 128 rest)) ≡ 127
+pub front_len : (rest : List ℕ) → 128 ≤ length rest → length (take 127 (take 128 rest)) ≡ 127
 front_len rest h = length-take-le 127 (take 128 rest) (omega (arith, length-take-le 128 rest h))
 
 -- no more than there is room for

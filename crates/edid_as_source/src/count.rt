@@ -99,7 +99,8 @@ pub fn with_count(bytes: &[u8], count: u8) -> ArrayVec<u8, 512>
     mended
 }
 
-fn has_length(bytes: &[u8]) -> bool
+/// Whether bytes are those of one block to four.
+pub fn has_length(bytes: &[u8]) -> bool
     ensures { result ≡ has_length bytes.now }
 {
     matches!(bytes.len(), 128 | 256 | 384 | 512)

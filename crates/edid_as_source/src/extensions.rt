@@ -18,8 +18,8 @@ pub fn is_taken(block: &[u8]) -> bool
     is_summed(block) || byte_at(block, 0) == CTA_TAG
 }
 
-// An extension with its right checksum.
-fn mended_extension(block: &[u8]) -> [u8; 128]
+/// An extension with its right checksum.
+pub fn mended_extension(block: &[u8]) -> [u8; 128]
     requires { length block.now ≡ 128 }
     ensures { result ≡ mended_extension block.now }
 {

@@ -1,4 +1,5 @@
 //! Blocks and the lines below them.
+use crate::codes::SECTION_CODES;
 use arrayvec::ArrayVec;
 use meaning_displayid::append_displayid;
 use meaning_extended::{append_extended, append_vendor};
@@ -27,19 +28,19 @@ fn reported(rt: &(impl Abort + AllocGlobal), block: &str) -> String {
 
 /// A block, and the lines below it.
 const ROWS: &str = "\
-extended 004f|  RGB range selectable, IT formats over- or underscanned, CE formats over- or underscanned/
-extended 0096|  YCC range selectable, preferred timing overscanned, IT formats overscanned, CE formats underscanned/
-extended 003012|  preferred timing over- or underscanned, no IT formats, no CE formats, then in hex 12/
-extended 05ffff|  xvYCC601, xvYCC709, sYCC601, opYCC601, opRGB, BT2020cYCC, BT2020YCC, BT2020RGB, DCI-P3, ICtCp, sRGB, default RGB, gamut metadata 0, gamut metadata 1, gamut metadata 2, gamut metadata 3/
-extended 05e000|  BT2020cYCC, BT2020YCC, BT2020RGB/
-extended 060f01735a14|  traditional gamma SDR, traditional gamma HDR, SMPTE ST 2084, hybrid log-gamma, static metadata type 1, content up to 604 cd/m2, frames on average up to 351 cd/m2, down to 0.037 cd/m2/
-extended 060501|  traditional gamma SDR, SMPTE ST 2084, static metadata type 1/
-extended 0d10818291a0a1c1feffdb|  16: 1920x1080 at 60 Hz 16:9/  detailed timing 1/  detailed timing 2/  further timing 1/  further timing 16/  161: reserved/  193: 5120x2160 at 120 Hz 64:27/  first timing by a code of DMT/  255: reserved/  219: 4096x2160 at 120 Hz 256:135/
-extended 0e6160|  97: 3840x2160 at 60 Hz 16:9/  96: 3840x2160 at 50 Hz 16:9/
-extended 0f|  each video code also in 4:2:0/
-extended 0f0b|  97: 3840x2160 at 60 Hz 16:9, also in 4:2:0/  96: 3840x2160 at 50 Hz 16:9, also in 4:2:0/  31: 1920x1080 at 50 Hz 16:9, also in 4:2:0/
-extended 0f0080|  95: 3840x2160 at 30 Hz 16:9, also in 4:2:0/
-extended 0f0100000000000102|  97: 3840x2160 at 60 Hz 16:9, also in 4:2:0/  place 49: no code, also in 4:2:0/  place 58: no code, also in 4:2:0/
+extended 004f|  video capability/  RGB range selectable, IT formats over- or underscanned, CE formats over- or underscanned/
+extended 0096|  video capability/  YCC range selectable, preferred timing overscanned, IT formats overscanned, CE formats underscanned/
+extended 003012|  video capability/  preferred timing over- or underscanned, no IT formats, no CE formats, then in hex 12/
+extended 05ffff|  colorimetry/  xvYCC601, xvYCC709, sYCC601, opYCC601, opRGB, BT2020cYCC, BT2020YCC, BT2020RGB, DCI-P3, ICtCp, sRGB, default RGB, gamut metadata 0, gamut metadata 1, gamut metadata 2, gamut metadata 3/
+extended 05e000|  colorimetry/  BT2020cYCC, BT2020YCC, BT2020RGB/
+extended 060f01735a14|  static HDR metadata/  traditional gamma SDR, traditional gamma HDR, SMPTE ST 2084, hybrid log-gamma, static metadata type 1, content up to 604 cd/m2, frames on average up to 351 cd/m2, down to 0.037 cd/m2/
+extended 060501|  static HDR metadata/  traditional gamma SDR, SMPTE ST 2084, static metadata type 1/
+extended 0d10818291a0a1c1feffdb|  preferred formats/  16: 1920x1080 at 60 Hz 16:9/  detailed timing 1/  detailed timing 2/  further timing 1/  further timing 16/  161: reserved/  193: 5120x2160 at 120 Hz 64:27/  first timing by a code of DMT/  255: reserved/  219: 4096x2160 at 120 Hz 256:135/
+extended 0e6160|  formats in 4:2:0 alone/  97: 3840x2160 at 60 Hz 16:9/  96: 3840x2160 at 50 Hz 16:9/
+extended 0f|  formats in 4:2:0 too/  each video code also in 4:2:0/
+extended 0f0b|  formats in 4:2:0 too/  97: 3840x2160 at 60 Hz 16:9, also in 4:2:0/  96: 3840x2160 at 50 Hz 16:9, also in 4:2:0/  31: 1920x1080 at 50 Hz 16:9, also in 4:2:0/
+extended 0f0080|  formats in 4:2:0 too/  95: 3840x2160 at 30 Hz 16:9, also in 4:2:0/
+extended 0f0100000000000102|  formats in 4:2:0 too/  97: 3840x2160 at 60 Hz 16:9, also in 4:2:0/  place 49: no code, also in 4:2:0/  place 58: no code, also in 4:2:0/
 vendor d85dc40178ff6fff3090ff6310|  HDMI Forum version 1, TMDS up to 600 MHz, SCDC, read request, cable status, CCBPCI, scrambling up to 340 MHz, 3D independent view, 3D dual view, 3D OSD disparity, FRL up to 12 Gbit/s on 4 lanes, UHD VIC, 4:2:0 at 48 bits a pixel, 4:2:0 at 36 bits a pixel, 4:2:0 at 30 bits a pixel/  ALLM, FVA, negative Mvrr, cinema VRR, Mdelta, QMS, FAPA in blanking, FAPA end extended, VRR from 48 to 144 Hz, DSC 1.2a, DSC in 4:2:0, QMS TFR max, QMS TFR min, DSC at each 1/16 bit a pixel, DSC at 16 bits, DSC at 12 bits, DSC at 10 bits/  DSC over FRL at 12 Gbit/s on 4 lanes, DSC in 4 slices up to 340 MHz, DSC chunks of a line up to 17408 bytes/
 vendor d85dc40178800002|  HDMI Forum version 1, TMDS up to 600 MHz, SCDC/  ALLM/
 vendor d85dc401000000|  HDMI Forum version 1/
@@ -71,7 +72,9 @@ vendor 46d00012|  Dolby, then in hex 12/
 vendor 47e000|  InFocus/
 vendor 5c12ca|  Microsoft/
 vendor 5c12ca0361|  Microsoft version 3, for the desktop, by others, use case 1, then in hex 0361/
-vendor 123456|
+vendor 123456|  maker 563412/
+vendor 12345678|  maker 563412, then in hex 78/
+vendor 1234|
 extended 0146d0000701|  Dolby Vision version 0, then in hex 0701/
 extended 0146d0006701|  Dolby Vision version 3, then in hex 6701/
 extended 0146d00024180900ad5244a9230c|  Dolby Vision version 1, display management 3.x, up to 700 cd/m2, down to 0.00099 cd/m2, near P3-D65/  red 0.6758 0.3203, green 0.2656 0.6602, blue 0.1367 0.0469/
@@ -80,7 +83,9 @@ extended 0146d0002680016a4cfe98|  Dolby Vision version 1, display management 3.x
 extended 0146d000480a9d4a665d4a|  Dolby Vision version 2, display management 4.x, backlight from 75 cd/m2 on, up to 1605 cd/m2, down to 0.00064 cd/m2, low latency, also over HDMI, reserved bits 04/  red 0.6680 0.2852, green 0.1445 0.6992, blue 0.1445 0.0391/
 extended 018b849001|  HDR10+ version 1/
 extended 018b84908d02|  HDR10+ version 1, other bits of byte 1 are 8c, then in hex 02/
-extended 01123456|
+extended 01123456|  video of maker 563412/
+extended 11123456aa|  audio of maker 563412, then in hex aa/
+extended 1112|
 extended 1146d00041|  Dolby audio version 2, height speakers, then in hex 41/
 extended 1146d000f280|  Dolby audio version 3, headphones alone, height speakers, surround speakers, centre speaker, then in hex f280/
 extended 02aabb|  VESA display device, then in hex aabb/
@@ -91,81 +96,85 @@ extended 1201|  HDMI audio, then in hex 01/
 extended 13|  room configuration/
 extended 1480|  speaker locations, then in hex 80/
 extended 200102|  InfoFrames, then in hex 0102/
-extended 2200|  DisplayID type VII timing, then in hex 00/
-extended 2300|  DisplayID type VIII timings, then in hex 00/
-extended 2a00|  DisplayID type X timings, then in hex 00/
+extended 22|  DisplayID type VII timing/
+extended 2202011b0804ff0e9f002f801f006f083d0002000400|  DisplayID type VII timing/  data block 22, revision and flags 02/  3840x2160 at 59.766 Hz, 531.202 MHz, h blanking 160, offset 48, width 32, +h, v blanking 62, offset 3, width 5, -v, 16:9/
+extended 2200|  DisplayID type VII timing/
+extended 23005255|  DisplayID type VIII timings/  DMT 52/  DMT 55/
+extended 2300|  DisplayID type VIII timings/
+extended 2a0002ff0e6f083b|  DisplayID type X timings/  3840x2160 at 60 Hz, CVT with reduced blanking of version 2/
+extended 2a00|  DisplayID type X timings/
 extended 7803|  count of extensions 3/
 extended 78|  count of extensions/
 extended 78ff02|  count of extensions 255, then in hex 02/
-extended 0403|
-extended 0a03|
-extended 2103|
-extended 7703|
-extended 7a03|";
+extended 0403|  extended tag 04, then in hex 03/
+extended 0a03|  extended tag 0a, then in hex 03/
+extended 2103|  extended tag 21, then in hex 03/
+extended 7703|  extended tag 77, then in hex 03/
+extended 7a03|  extended tag 7a, then in hex 03/";
 
 /// Each bit and each border of the extended blocks alone.
 const EXTENDED_BITS: &str = "\
-extended 050100|  xvYCC601/
-extended 050200|  xvYCC709/
-extended 050400|  sYCC601/
-extended 050800|  opYCC601/
-extended 051000|  opRGB/
-extended 052000|  BT2020cYCC/
-extended 054000|  BT2020YCC/
-extended 058000|  BT2020RGB/
-extended 050001|  gamut metadata 0/
-extended 050002|  gamut metadata 1/
-extended 050004|  gamut metadata 2/
-extended 050008|  gamut metadata 3/
-extended 050010|  default RGB/
-extended 050020|  sRGB/
-extended 050040|  ICtCp/
-extended 050080|  DCI-P3/
-extended 060100|  traditional gamma SDR/
-extended 060200|  traditional gamma HDR/
-extended 060400|  SMPTE ST 2084/
-extended 060800|  hybrid log-gamma/
-extended 061000|  reserved transfer function 4/
-extended 062000|  reserved transfer function 5/
-extended 064000|  reserved transfer function 6/
-extended 068000|  reserved transfer function 7/
-extended 060002|  reserved metadata type 2/
-extended 060004|  reserved metadata type 3/
-extended 060008|  reserved metadata type 4/
-extended 060010|  reserved metadata type 5/
-extended 060020|  reserved metadata type 6/
-extended 060040|  reserved metadata type 7/
-extended 060080|  reserved metadata type 8/
-extended 060001|  static metadata type 1/
-extended 06000020|  content up to 100 cd/m2/
-extended 0600000020|  frames on average up to 100 cd/m2/
-extended 060000000020|  least luminance by code 32/
-extended 060000ff0001|  content up to 12526 cd/m2, down to 0.0019 cd/m2/
-extended 060000ff00ff|  content up to 12526 cd/m2, down to 125.257 cd/m2/
-extended 060000200020|  content up to 100 cd/m2, down to 0.016 cd/m2/
-extended 060000010001|  content up to 51 cd/m2, down to 0.000008 cd/m2/
-extended 060000600080|  content up to 400 cd/m2, down to 1.008 cd/m2/
-extended 0040|  RGB range selectable, no IT formats, no CE formats/
-extended 0080|  YCC range selectable, no IT formats, no CE formats/
-extended 0010|  preferred timing overscanned, no IT formats, no CE formats/
-extended 0004|  IT formats overscanned, no CE formats/
-extended 0001|  no IT formats, CE formats overscanned/
-extended 0020|  preferred timing underscanned, no IT formats, no CE formats/
-extended 0008|  IT formats underscanned, no CE formats/
-extended 0002|  no IT formats, CE formats underscanned/
-extended 0030|  preferred timing over- or underscanned, no IT formats, no CE formats/
-extended 000c|  IT formats over- or underscanned, no CE formats/
-extended 0003|  no IT formats, CE formats over- or underscanned/
-extended 0f0001|  3: 720x480 at 60 Hz 16:9, also in 4:2:0/
-extended 0f0002|  2: 720x480 at 60 Hz 4:3, also in 4:2:0/
-extended 0f0004|  18: 720x576 at 50 Hz 16:9, also in 4:2:0/
-extended 0f0008|  32: 1920x1080 at 24 Hz 16:9, also in 4:2:0/
-extended 0f0010|  33: 1920x1080 at 25 Hz 16:9, also in 4:2:0/
-extended 0f0020|  34: 1920x1080 at 30 Hz 16:9, also in 4:2:0/
-extended 0f0040|  93: 3840x2160 at 24 Hz 16:9, also in 4:2:0/
-extended 0f0080|  95: 3840x2160 at 30 Hz 16:9, also in 4:2:0/
-extended 0d7f80818f90919f|  127: 5120x2160 at 100 Hz 64:27/  128: reserved/  detailed timing 1/  detailed timing 15/  detailed timing 16/  further timing 1/  further timing 15/
-extended 0da0a1c0c1fdfeff|  further timing 16/  161: reserved/  192: reserved/  193: 5120x2160 at 120 Hz 64:27/  253: reserved/  first timing by a code of DMT/  255: reserved/";
+extended 050100|  colorimetry/  xvYCC601/
+extended 050200|  colorimetry/  xvYCC709/
+extended 050400|  colorimetry/  sYCC601/
+extended 050800|  colorimetry/  opYCC601/
+extended 051000|  colorimetry/  opRGB/
+extended 052000|  colorimetry/  BT2020cYCC/
+extended 054000|  colorimetry/  BT2020YCC/
+extended 058000|  colorimetry/  BT2020RGB/
+extended 050001|  colorimetry/  gamut metadata 0/
+extended 050002|  colorimetry/  gamut metadata 1/
+extended 050004|  colorimetry/  gamut metadata 2/
+extended 050008|  colorimetry/  gamut metadata 3/
+extended 050010|  colorimetry/  default RGB/
+extended 050020|  colorimetry/  sRGB/
+extended 050040|  colorimetry/  ICtCp/
+extended 050080|  colorimetry/  DCI-P3/
+extended 060100|  static HDR metadata/  traditional gamma SDR/
+extended 060200|  static HDR metadata/  traditional gamma HDR/
+extended 060400|  static HDR metadata/  SMPTE ST 2084/
+extended 060800|  static HDR metadata/  hybrid log-gamma/
+extended 061000|  static HDR metadata/  reserved transfer function 4/
+extended 062000|  static HDR metadata/  reserved transfer function 5/
+extended 064000|  static HDR metadata/  reserved transfer function 6/
+extended 068000|  static HDR metadata/  reserved transfer function 7/
+extended 060002|  static HDR metadata/  reserved metadata type 2/
+extended 060004|  static HDR metadata/  reserved metadata type 3/
+extended 060008|  static HDR metadata/  reserved metadata type 4/
+extended 060010|  static HDR metadata/  reserved metadata type 5/
+extended 060020|  static HDR metadata/  reserved metadata type 6/
+extended 060040|  static HDR metadata/  reserved metadata type 7/
+extended 060080|  static HDR metadata/  reserved metadata type 8/
+extended 060001|  static HDR metadata/  static metadata type 1/
+extended 06000020|  static HDR metadata/  content up to 100 cd/m2/
+extended 0600000020|  static HDR metadata/  frames on average up to 100 cd/m2/
+extended 060000000020|  static HDR metadata/  least luminance by code 32/
+extended 060000ff0001|  static HDR metadata/  content up to 12526 cd/m2, down to 0.0019 cd/m2/
+extended 060000ff00ff|  static HDR metadata/  content up to 12526 cd/m2, down to 125.257 cd/m2/
+extended 060000200020|  static HDR metadata/  content up to 100 cd/m2, down to 0.016 cd/m2/
+extended 060000010001|  static HDR metadata/  content up to 51 cd/m2, down to 0.000008 cd/m2/
+extended 060000600080|  static HDR metadata/  content up to 400 cd/m2, down to 1.008 cd/m2/
+extended 0040|  video capability/  RGB range selectable, no IT formats, no CE formats/
+extended 0080|  video capability/  YCC range selectable, no IT formats, no CE formats/
+extended 0010|  video capability/  preferred timing overscanned, no IT formats, no CE formats/
+extended 0004|  video capability/  IT formats overscanned, no CE formats/
+extended 0001|  video capability/  no IT formats, CE formats overscanned/
+extended 0020|  video capability/  preferred timing underscanned, no IT formats, no CE formats/
+extended 0008|  video capability/  IT formats underscanned, no CE formats/
+extended 0002|  video capability/  no IT formats, CE formats underscanned/
+extended 0030|  video capability/  preferred timing over- or underscanned, no IT formats, no CE formats/
+extended 000c|  video capability/  IT formats over- or underscanned, no CE formats/
+extended 0003|  video capability/  no IT formats, CE formats over- or underscanned/
+extended 0f0001|  formats in 4:2:0 too/  3: 720x480 at 60 Hz 16:9, also in 4:2:0/
+extended 0f0002|  formats in 4:2:0 too/  2: 720x480 at 60 Hz 4:3, also in 4:2:0/
+extended 0f0004|  formats in 4:2:0 too/  18: 720x576 at 50 Hz 16:9, also in 4:2:0/
+extended 0f0008|  formats in 4:2:0 too/  32: 1920x1080 at 24 Hz 16:9, also in 4:2:0/
+extended 0f0010|  formats in 4:2:0 too/  33: 1920x1080 at 25 Hz 16:9, also in 4:2:0/
+extended 0f0020|  formats in 4:2:0 too/  34: 1920x1080 at 30 Hz 16:9, also in 4:2:0/
+extended 0f0040|  formats in 4:2:0 too/  93: 3840x2160 at 24 Hz 16:9, also in 4:2:0/
+extended 0f0080|  formats in 4:2:0 too/  95: 3840x2160 at 30 Hz 16:9, also in 4:2:0/
+extended 0d7f80818f90919f|  preferred formats/  127: 5120x2160 at 100 Hz 64:27/  128: reserved/  detailed timing 1/  detailed timing 15/  detailed timing 16/  further timing 1/  further timing 15/
+extended 0da0a1c0c1fdfeff|  preferred formats/  further timing 16/  161: reserved/  192: reserved/  193: 5120x2160 at 120 Hz 64:27/  253: reserved/  first timing by a code of DMT/  255: reserved/";
 
 /// Each bit of the HDMI Forum's block alone.
 const FORUM_BITS: &str = "\
@@ -211,12 +220,39 @@ vendor d85dc401000000000000000001ee|  HDMI Forum version 1/  DSC chunks of a lin
 const SECTIONS: &str = "\
 displayid 70121700000300144cd00084ff0e9f002f801f006f083d0002000400|  version 1.2, 23 bytes of data, an extension/  3840x2160 at 59.997 Hz, 533.250 MHz, h blanking 160, offset 48, width 32, +h, v blanking 62, offset 3, width 5, -v, preferred, 16:9/
 displayid 7020170201220014011b0884ff0e9f002f801f006f083d0002000400|  version 2.0, 23 bytes of data, a generic display, 1 further sections/  3840x2160 at 59.766 Hz, 531.202 MHz, h blanking 160, offset 48, width 32, +h, v blanking 62, offset 3, width 5, -v, preferred, 16:9/
-displayid 7012190000120016821010007f076f08000000000044454c341278563412|  version 1.2, 25 bytes of data, an extension/  tiles, in one enclosure, one alone scaled, 2 across, 1 down, column 2, row 1, 1920x2160 pixels, then in hex 000000000044454c341278563412/
+displayid 7012190000120016821010007f076f08000000000044454c341278563412|  version 1.2, 25 bytes of data, an extension/  tiles, in one enclosure, one alone scaled, 2 across, 1 down, column 2, row 1, 1920x2160 pixels/  of the product of DEL, code 4660, serial number 305419896/
 displayid 70120f030001000ce803c201000f700891784e79|  version 1.2, 15 bytes of data, a stand-alone display/  parameters, 1000 x 450 in tenths of 1 mm, 3840x2160 pixels, audio, power management, deinterlacing, gamma code 120, aspect 1.7800, native 10 bits a colour, overall 8 bits a colour/
 displayid 70120703000f0004a4120103|  version 1.2, 7 bytes of data, a stand-alone display/  display interface, DisplayPort, links 4, version 1.2, then in hex 0103/
-displayid 70121c090029001000112233445566778899aabbccddeeff7f0001aa0000000000|  version 1.2, 28 bytes of data, product type 9 (reserved)/  container, then in hex 00112233445566778899aabbccddeeff/  data block 7f, then in hex aa/
+displayid 70121c090029001000112233445566778899aabbccddeeff7f0001aa0000000000|  version 1.2, 28 bytes of data, product type 9 (reserved)/  container 00112233445566778899aabbccddeeff/  data block 7f, then in hex aa/
 displayid 70121a000000000344454c0700010126000101810002200103000201020300|  version 1.2, 26 bytes of data, an extension/  product, then in hex 44454c/  timings by codes of DMT, then in hex 01/  interface features, then in hex 01/  data blocks of CTA-861, then in hex 2001/  then in hex 0102/  then in hex 0300/
-displayid 701214000012000d6a3221c57f076f08010000000001000101|  version 1.2, 20 bytes of data, an extension/  tiles, with bezels, reserved bits 20, some alone at their place, one alone scaled, 4 across, 3 down, column 3, row 2, high bits c5, 1920x2160 pixels, then in hex 0100000000/  data block 01, then in hex 01/";
+displayid 701214000012000d6a3221c57f076f08010000000001000101|  version 1.2, 20 bytes of data, an extension/  tiles, with bezels, reserved bits 20, some alone at their place, one alone scaled, 4 across, 3 down, column 3, row 2, high bits c5, 1920x2160 pixels, then in hex 0100000000/  data block 01, then in hex 01/
+displayid 702020030021011d8813940b000f7008003c8a54cc849968420f004554b05cb060662a9278|  version 2.0, 32 bytes of data, a television/  data block 21, revision and flags 01/  parameters, 5000 x 2964 in tenths of 1 mm, 3840x2160 pixels, left to right, top to bottom, luminances guaranteed, CIE 1931, speakers, 10 bits a colour, LCD, dark theme preferred/  primary 1 0.6396 0.3301, primary 2 0.2998 0.5996, primary 3 0.1504 0.0596, white 0.3125 0.3291/  full coverage up to 300.000 cd/m2, 10% coverage up to 600.000 cd/m2, down to 0.050 cd/m2, gamma 2.2000/
+displayid 702020030021801d5802520180073804ca3c8a54cc849968420f00455400600080007c21ff|  version 2.0, 32 bytes of data, a television/  data block 21, revision and flags 80/  parameters, 600 x 338 mm, 1920x1080 pixels, top to bottom, right to left, luminances for guidance, CIE 1976, no speakers, 8 bits a colour, OLED/  primary 1 0.6396 0.3301, primary 2 0.2998 0.5996, primary 3 0.1504 0.0596, white 0.3125 0.3291/  full coverage up to 512.000 cd/m2, reserved luminance 007c/
+displayid 70201803002500095f61000f4f0c3078802501095f61000f4f0c302c85|  version 2.0, 24 bytes of data, a television/  dynamic range limits, 24928 to 806672 kHz, 48 to 120 Hz, seamless/  data block 25, revision and flags 01/  dynamic range limits, 24928 to 806672 kHz, 48 to 300 Hz, seamless, reserved bits 04/
+displayid 70200d030026000a0e06020407e041000112|  version 2.0, 13 bytes of data, a television/  interface features, RGB 8 10 12 bits, YCbCr 4:4:4 8 10 bits/  YCbCr 4:2:2 10 bits, YCbCr 4:2:0 12 bits, 4:2:0 from 519750 kHz/  audio at 48 44.1 32 kHz, colours sRGB BT.2020/ST 2084, 1 further combinations/  sRGB with BT.601/
+displayid 70200f03002b000c150a308f0014120018ef0000|  version 2.0, 15 bytes of data, a television/  Adaptive-Sync/  48 to 144 Hz, native to the panel, fixed average and adaptive v-total, seamless, a frame at most 2500 us longer, a frame at most 5000 us shorter/  24 to 240 Hz, fixed average v-total, seamless, no jitter by longer frames/
+displayid 70200f030024000c01ff0e6f083b127f0737043b|  version 2.0, 15 bytes of data, a television/  3840x2160 at 60 Hz, CVT with reduced blanking/  1920x1080 at 60 Hz, CVT with reduced blanking of version 2, also at 1000/1001 of it/
+displayid 70201303002a100783ff0e6f08ef2432000602ff0e6f083b|  version 2.0, 19 bytes of data, a television/  data block 2a, revision and flags 10/  3840x2160 at 240 Hz, CVT with reduced blanking of version 3, also in YCbCr 4:2:0, horizontal blanking step 1, 35 us more vertical blanking/  3840x2160 at 60 Hz, CVT with reduced blanking of version 2/
+displayid 70200e03002300025255234002106123800101|  version 2.0, 14 bytes of data, a television/  DMT 52/  DMT 55/  data block 23, revision and flags 40/  VIC 16/  VIC 97/  data block 23, revision and flags 80/  HDMI VIC 1/
+displayid 7020190300280016c21000007f076f080a010203043a0292341278563412|  version 2.0, 25 bytes of data, a television/  tiles, in one enclosure, with bezels, one alone scaled, 2 across, 1 down, column 1, row 1, 1920x2160 pixels, bezels times 10, top 1, bottom 2, right 3, left 4/  of the product of maker 3a0292, code 4660, serial number 305419896/
+displayid 70201403002000110010fa3412785634120a140548656c6c6f|  version 2.0, 20 bytes of data, a television/  product of maker 0010fa, code 4660, serial number 305419896, week 10 of 2020, Hello/
+displayid 70201303007e00073a0292814410087f00060010fa0102aa|  version 2.0, 19 bytes of data, a television/  of VESA, DisplayPort, native colours by default, 4 pixels overlap, four streams, then in hex 1008/  of maker 0010fa, then in hex 0102aa/
+displayid 7020170300220214011b0884ff0e9f002f801f006f083d0002000400|  version 2.0, 23 bytes of data, a television/  data block 22, revision and flags 02/  3840x2160 at 59.766 Hz, 531.202 MHz, h blanking 160, offset 48, width 32, +h, v blanking 62, offset 3, width 5, -v, also in YCbCr 4:2:0, 16:9/
+displayid 701214030000001144454c3412785634120a140548656c6c6f|  version 1.2, 20 bytes of data, a stand-alone display/  product of DEL, code 4660, serial number 305419896, week 10 of 2020, Hello/
+displayid 701218030002010d313c8a54cc849968420f0045540201058102004554|  version 1.2, 24 bytes of data, a stand-alone display/  data block 02, revision and flags 01/  colours, spatial, 3 primaries, 1 white points/  0.6396 0.3301/  0.2998 0.5996/  0.1504 0.0596/  0.3125 0.3291/  data block 02, revision and flags 01/  colours, temporal, 0 primaries, 1 white points, BT.709/  0.3125 0.3291/
+displayid 70120e030004000bff0f008863101457121b03|  version 1.2, 14 bytes of data, a stand-alone display/  800x600, 40960 kHz, h blanking 72, offset 16, width 40, +h, v blanking 28, offset 1, width 4, -v, preferred/
+displayid 701206030005000394ef3b|  version 1.2, 6 bytes of data, a stand-alone display/  1920 pixels a line at 60 Hz, CVT with reduced blanking, 16:9, preferred/
+displayid 70120803000601015206410110|  version 1.2, 8 bytes of data, a stand-alone display/  data block 06, revision and flags 01/  DMT 52/  data block 06, revision and flags 41/  VIC 16/
+displayid 701212030009000fc30900e9e6001ea05000184b1400f0|  version 1.2, 18 bytes of data, a stand-alone display/  range limits, 25000 to 591140 kHz, lines at 30 to 160 kHz, blanking of 80 pixels, 24 to 75 Hz, blanking of 20 lines, interlaced, CVT, CVT with reduced blanking, discrete frequencies/
+displayid 70120f03000a0004414231320b000548656c6c6f|  version 1.2, 15 bytes of data, a stand-alone display/  serial number: AB12/  text: Hello/
+displayid 70121003000c000d15587f0737044e10011b1b0885|  version 1.2, 16 bytes of data, a stand-alone display/  display device, LCD, kind 5, transmissive, its own light, backlight can be switched, 1920x1080 pixels, aspect 1.7800, landscape, turns clockwise, first pixel upper left/  RGB vertical stripes, pitch 27 x 27 hundredths of 1 mm, 8 bits a colour, white to black in 5 ms/
+displayid 70120903000d0006550a1432140a|  version 1.2, 9 bytes of data, a stand-alone display/  power sequencing, T1 from 5 tenths of 1 ms to 10 ms, T2 up to 20 ms, T3 up to 40 ms, T4 from 500 ms, T5 from 200 ms, T6 from 100 ms/
+displayid 70120803000e0105c002100220|  version 1.2, 8 bytes of data, a stand-alone display/  data block 0e, revision and flags 01/  transfer characteristics, the first curve is white, a curve for each primary, then in hex 02100220/
+displayid 70120d03000f000aa4120e06020114410000|  version 1.2, 13 bytes of data, a stand-alone display/  display interface, DisplayPort, links 4, version 1.2/  HDCP 1.4, down spread 1 tenths of 1 percent, RGB 8 10 12 bits, YCbCr 4:4:4 8 10 bits/  YCbCr 4:2:2 10 bits, then in hex 0000/
+displayid 7012060300100103020101|  version 1.2, 6 bytes of data, a stand-alone display/  data block 10, revision and flags 01/  stereo interface, side by side, then in hex 01/
+displayid 70120a030011000780007f0737043b|  version 1.2, 10 bytes of data, a stand-alone display/  1920x1080 at 60 Hz, CVT with reduced blanking of version 2, preferred/
+displayid 701211030013000e330d027f8737841757002b2c0304|  version 1.2, 17 bytes of data, a stand-alone display/  1920x1080, 134452 kHz, h blanking low 23, offset low 87, width 44, +h, v blanking 45, offset 4, width 5, +v/
+displayid 7020090300080002018125000101|  version 2.0, 9 bytes of data, a television/  timings by codes of CTA-861, then in hex 0181/  data block 25, then in hex 01/";
 
 /// Each code and each bit of a section of DisplayID alone: what it is, its parameters, tiles, interfaces and timings (DisplayID 1.3,
 /// sections 3 and 4; of version 2.0 its primary use cases).
@@ -351,11 +387,11 @@ extended 0146d000200018|  Dolby Vision version 1, display management 2.x, up to 
 extended 0146d00020001a|  Dolby Vision version 1, display management 2.x, up to 100 cd/m2, down to 0.010 cd/m2, near BT.709/
 extended 0146d0002000fc|  Dolby Vision version 1, display management 2.x, up to 100 cd/m2, down to 0.984 cd/m2, near BT.709/
 extended 0146d0002000fe|  Dolby Vision version 1, display management 2.x, up to 100 cd/m2, down to 1.000 cd/m2, near BT.709/
-extended 060000780001|  content up to 673 cd/m2, down to 0.00010 cd/m2/
-extended 060000780003|  content up to 673 cd/m2, down to 0.00093 cd/m2/
-extended 060000780004|  content up to 673 cd/m2, down to 0.0017 cd/m2/
-extended 06000078000a|  content up to 673 cd/m2, down to 0.010 cd/m2/
-extended 0600007800ff|  content up to 673 cd/m2, down to 6.727 cd/m2/
+extended 060000780001|  static HDR metadata/  content up to 673 cd/m2, down to 0.00010 cd/m2/
+extended 060000780003|  static HDR metadata/  content up to 673 cd/m2, down to 0.00093 cd/m2/
+extended 060000780004|  static HDR metadata/  content up to 673 cd/m2, down to 0.0017 cd/m2/
+extended 06000078000a|  static HDR metadata/  content up to 673 cd/m2, down to 0.010 cd/m2/
+extended 0600007800ff|  static HDR metadata/  content up to 673 cd/m2, down to 6.727 cd/m2/
 vendor 1a0000020128900000735a082f|  AMD FreeSync version 2.1, from 40 Hz to 144 Hz, up to 604 cd/m2, down to 0.752 cd/m2, byte 9 is 08, byte 10 is 2f/
 vendor 1a000002012890e601735a0000|  AMD FreeSync version 2.1, from 40 Hz to 144 Hz, by MCCS with VCP code e6, other bits of byte 6 are 01, up to 604 cd/m2, down to 0.752 cd/m2/
 extended 0146d000200200|  Dolby Vision version 1, display management 2.x, up to 150 cd/m2, down to 0 cd/m2, near BT.709/";
@@ -383,6 +419,7 @@ fn each_bit_is_reported(rt: HostRuntime) {
     are_reported(&rt, EXTENDED_BITS);
     are_reported(&rt, FORUM_BITS);
     are_reported(&rt, SECTION_BITS);
+    are_reported(&rt, SECTION_CODES);
     are_reported(&rt, DOLBY_BITS);
 }
 

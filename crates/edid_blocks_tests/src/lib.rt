@@ -6,9 +6,13 @@
 #[cfg(test)]
 mod blocks;
 #[cfg(test)]
+mod codes;
+#[cfg(test)]
 mod extended;
 #[cfg(test)]
 mod forms;
+#[cfg(test)]
+mod further;
 #[cfg(test)]
 mod places;
 #[cfg(test)]

@@ -1,5 +1,8 @@
 pub mod Pairing
 pub mod Listing
+pub mod Remarking
+pub mod Wording
+pub mod Recording
 pub mod RowLemmas
 pub mod Gathering
 pub mod DigitFacts

@@ -3,14 +3,9 @@ use Rattle.std.proofs.Common.{◌≡◌, ℕ, zero, suc, ◌≤◌, Bool, true, 
 use Rattle.std.specs.Option.{option_map}
 use Rattle.std.specs.Str.{bytes_eq}
 use Rattle.std.proofs.lemmas.Bool.{false≢true}
-use Rattle.edid_dump.specs.declared.digits.Column.{Column}
 use Rattle.edid_dump.specs.declared.rows.DumpForm.{DumpForm}
-use Rattle.edid_dump.specs.Digits.{bytes_with_row, listed, pairs}
-use Rattle.edid_dump.specs.Rows.{begins_with, column_of, counted_bytes, digits_read, digits_start, is_list, may_have, row, row_from}
-
--- the digits of a form without a list are pairs
-pub read_pairs : (form : DumpForm) (column : Column) (text : List ℕ) → column ≡ column_of form → is_list form ≡ false → digits_read form text ≡ pairs column text
-read_pairs form column text e h = ap (λ b. if b then listed text else pairs (column_of form) text) h ∙ ap (λ c. pairs c text) (sym e)
+use Rattle.edid_dump.specs.Digits.{bytes_with_row}
+use Rattle.edid_dump.specs.Rows.{begins_with, counted_bytes, digits_read, digits_start, may_have, row, row_from}
 
 -- the count of a row, from that of its pairs
 abbrev pub chosen : DumpForm → Option ℕ → Option ℕ

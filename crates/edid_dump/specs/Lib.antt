@@ -1,4 +1,8 @@
 pub mod Digits
+pub mod Remarks
+pub mod Spelled
+pub mod Records
+pub mod Readings
 pub mod Dump
 pub mod Rows
 pub mod Printed

@@ -1,13 +1,18 @@
 -- Rows of a hex dump, in the forms in which EDIDs are printed (own).
-use Rattle.std.specs.Prelude.{ℕ, ◌-◌, ◌/◌, ◌==◌, ◌&&◌, ◌||◌, nat_le, nat_lt, Bool, true, false, if◌then◌else◌, List, [], ◌∷◌, length, take, drop, slice_index, find, Option, Some, None}
-use Rattle.std.specs.List.{list_all}
+use Rattle.std.specs.Prelude.{ℕ, ◌+◌, ◌-◌, ◌/◌, ◌%◌, ◌==◌, ◌&&◌, ◌||◌, nat_le, nat_lt, Bool, true, false, if◌then◌else◌, List, [], ◌∷◌, length, take, drop, slice_index, codes, find, Option, Some, None}
+use Rattle.std.specs.List.{list_all, position_or_len}
 use Rattle.std.specs.Str.{bytes_eq}
 use Rattle.std.specs.Char.{is_ascii_hexdigit}
-use Rattle.edid_dump.specs.declared.digits.Column.{Column}
 use Rattle.edid_dump.specs.declared.digits.Column.TheVariants.{Absent, AfterGap, AfterBar, AfterAngle}
 use Rattle.edid_dump.specs.declared.rows.DumpForm.{DumpForm}
-use Rattle.edid_dump.specs.declared.rows.DumpForm.TheVariants.{Plain, Colon, Bars, Octal, Six, LogPairs, LogDigits, Short, Words, Opened, Listed}
-use Rattle.edid_dump.specs.Digits.{is_blank, list_start, listed, octal_of, offset_of, pairs, swapped}
+use Rattle.edid_dump.specs.declared.rows.DumpForm.TheVariants.{Plain, Colon, Bars, Octal, Six, LogPairs, LogDigits, Short, Words, Opened, Listed, Tagged, Table, Record, Dashed, DashedMore, Escaped, EscapedMore, Decimal, DecimalMore, Word, Over}
+use Rattle.edid_dump.specs.declared.readings.Ending.TheVariants.{Sixteen, Tag, Other}
+use Rattle.edid_dump.specs.declared.readings.Reading.{Reading}
+use Rattle.edid_dump.specs.declared.readings.Reading.TheVariants.{InPairs, UpTo, InCode, InWords, InRecord}
+use Rattle.edid_dump.specs.declared.spelled.Spelling.TheVariants.{Pair, Escape, Number}
+use Rattle.edid_dump.specs.Digits.{is_blank, list_start, octal_of, offset_of, swapped}
+use Rattle.edid_dump.specs.Readings.{read_by}
+use Rattle.edid_dump.specs.Remarks.{begins}
 
 -- eight digits
 abbrev pub has_offset : List ℕ → Bool
@@ -29,9 +34,38 @@ abbrev pub tail_start : ℕ → List ℕ → Option ℕ
 tail_start count line =
     if nat_lt count (length line) && is_blank (slice_index line (length line - count - 1)) then Some (length line - count) else None
 
+-- after the first `>`
+abbrev pub after_tag : List ℕ → Option ℕ
+after_tag line =
+    if nat_lt (position_or_len (λ b. b == 62) line) (length line) then Some (position_or_len (λ b. b == 62) line + 1) else None
+
+-- eight digits and three spaces
+abbrev pub has_wide_offset : List ℕ → Bool
+has_wide_offset line = has_offset line && ((slice_index line 8 == 32) && ((slice_index line 9 == 32) && (slice_index line 10 == 32)))
+
+-- after the offset of Format-Hex: sixteen digits and a space in PowerShell 7, eight and three spaces in Windows PowerShell 5.1
+abbrev pub table_start : List ℕ → Option ℕ
+table_start line = if has_number 16 line then Some 17 else if has_wide_offset line then Some 11 else None
+
+-- the header as these forms spell it, which may begin within a line: its hex digits are of one case; of numbers the last is not looked at
+abbrev pub spells_header : DumpForm → List ℕ → Bool
+spells_header Dashed rest = begins (codes "00-ff-ff-ff-ff-ff-ff-00") rest || begins (codes "00-FF-FF-FF-FF-FF-FF-00") rest
+spells_header Escaped rest =
+    begins (codes "\\x00\\xff\\xff\\xff\\xff\\xff\\xff\\x00") rest || begins (codes "\\x00\\xFF\\xFF\\xFF\\xFF\\xFF\\xFF\\x00") rest
+spells_header Decimal rest =
+    begins (codes "0,255,255,255,255,255,255,") rest
+    || (begins (codes "0, 255, 255, 255, 255, 255, 255,") rest || begins (codes "0 255 255 255 255 255 255 ") rest)
+spells_header Word rest = begins (codes "00ffffffffffff00") rest || begins (codes "00FFFFFFFFFFFF00") rest
+spells_header _ rest = false
+
+-- where it first stands
+abbrev pub header_at : DumpForm → ℕ → List ℕ → Option ℕ
+header_at form place [] = None
+header_at form place (x ∷ rest) = if spells_header form (x ∷ rest) then Some place else header_at form (place + 1) rest
+
 -- where the digits of a row begin: with the line; after an offset of eight digits and a colon, or two spaces, or alone; after
 -- one of seven or six digits, or of two and a colon; at sixteen pairs one blank apart, or 32 digits, that end a line of a log;
--- after what opens a list
+-- after what opens a list; after a tag; after an offset of Format-Hex; after the colon of a record; at the header
 abbrev pub digits_start : DumpForm → List ℕ → Option ℕ
 digits_start Plain line = Some 0
 digits_start Colon line = if has_offset line && (slice_index line 8 == 58) then Some 9 else None
@@ -45,31 +79,48 @@ digits_start Short line = if is_short line then Some 3 else None
 digits_start Words line = after_number 7 line
 digits_start Opened line = Some (list_start line)
 digits_start Listed line = Some 0
+digits_start Tagged line = after_tag line
+digits_start Table line = table_start line
+digits_start Record line = if slice_index line 0 == 58 then Some 1 else None
+digits_start Dashed line = header_at Dashed 0 line
+digits_start DashedMore line = Some 0
+digits_start Escaped line = header_at Escaped 0 line
+digits_start EscapedMore line = Some 0
+digits_start Decimal line = header_at Decimal 0 line
+digits_start DecimalMore line = Some 0
+digits_start Word line = header_at Word 0 line
+digits_start Over line = None
 
-abbrev pub column_of : DumpForm → Column
-column_of Plain = Absent
-column_of Colon = AfterGap
-column_of Bars = AfterBar
-column_of LogPairs = Absent
-column_of LogDigits = Absent
-column_of Octal = AfterAngle
-column_of Six = AfterAngle
-column_of Short = AfterGap
-column_of Words = Absent
-column_of Opened = Absent
-column_of Listed = Absent
-
--- whether it has a list
-abbrev pub is_list : DumpForm → Bool
-is_list Opened = true
-is_list Listed = true
-is_list _ = false
+-- how the bytes of a row stand in its digits
+abbrev pub reading_of : DumpForm → Reading
+reading_of Plain = InPairs Absent
+reading_of Colon = InPairs AfterGap
+reading_of Bars = InPairs AfterBar
+reading_of LogPairs = InPairs Absent
+reading_of LogDigits = InPairs Absent
+reading_of Octal = InPairs AfterAngle
+reading_of Six = InPairs AfterAngle
+reading_of Short = InPairs AfterGap
+reading_of Words = InPairs Absent
+reading_of Opened = InCode
+reading_of Listed = InCode
+reading_of Tagged = UpTo Tag
+reading_of Table = UpTo Sixteen
+reading_of Record = InRecord
+reading_of Dashed = InWords Pair
+reading_of DashedMore = InWords Pair
+reading_of Escaped = InWords Escape
+reading_of EscapedMore = InWords Escape
+reading_of Decimal = InWords Number
+reading_of DecimalMore = InWords Number
+reading_of Word = UpTo Other
+reading_of Over = InPairs Absent
 
 -- the bytes of its digits
 abbrev pub digits_read : DumpForm → List ℕ → Option (List ℕ)
-digits_read form text = if is_list form then listed text else pairs (column_of form) text
+digits_read form text = read_by (reading_of form) text
 
--- a row of a log has sixteen bytes
+-- a row of a log or of Format-Hex has sixteen bytes; a word has whole blocks; a row of the other forms that may be empty has some
 abbrev pub may_have : DumpForm → ℕ → Bool
 may_have Plain count = true
 may_have Colon count = true
@@ -82,6 +133,17 @@ may_have Short count = true
 may_have Words count = true
 may_have Opened count = true
 may_have Listed count = true
+may_have Tagged count = nat_lt 0 count
+may_have Table count = count == 16
+may_have Record count = nat_lt 0 count
+may_have Dashed count = nat_lt 0 count
+may_have DashedMore count = nat_lt 0 count
+may_have Escaped count = nat_lt 0 count
+may_have EscapedMore count = nat_lt 0 count
+may_have Decimal count = nat_lt 0 count
+may_have DecimalMore count = nat_lt 0 count
+may_have Word count = count % 128 == 0
+may_have Over count = true
 
 abbrev pub counted_bytes : DumpForm → Option (List ℕ) → Option (List ℕ)
 counted_bytes form None = None
@@ -113,9 +175,13 @@ place_of Six line = offset_of line / 256
 place_of Words line = offset_of line / 16
 place_of _ line = offset_of line
 
--- what opens a list stands on its first row alone
+-- what opens a list, and what stands before a header, stands on the first row alone; a word is the only row
 abbrev pub next_form : DumpForm → DumpForm
 next_form Opened = Listed
+next_form Dashed = DashedMore
+next_form Escaped = EscapedMore
+next_form Decimal = DecimalMore
+next_form Word = Over
 next_form form = form
 
 -- the bytes of all rows in their order
@@ -145,7 +211,7 @@ has_header line form = begins_with (header_in form) (row form line)
 
 -- the forms of a first row, in the order in which a line is tried
 abbrev pub first_forms : List DumpForm
-first_forms = Plain ∷ Colon ∷ Bars ∷ Octal ∷ Six ∷ LogPairs ∷ LogDigits ∷ Short ∷ Words ∷ Opened ∷ []
+first_forms = Plain ∷ Colon ∷ Bars ∷ Octal ∷ Six ∷ LogPairs ∷ LogDigits ∷ Short ∷ Words ∷ Opened ∷ Tagged ∷ Table ∷ Record ∷ Dashed ∷ Escaped ∷ Decimal ∷ Word ∷ []
 
 -- the form of a line that an EDID begins with, the first that fits
 abbrev pub form_of : List ℕ → Option DumpForm

@@ -180,8 +180,10 @@ fn find(text: &[u8]) -> Option<(DumpForm, u64, &[u8])>
 /// header 00 FF FF FF FF FF FF 00, and goes on as far as the lines are rows of the same form: digits and blanks alone; an
 /// offset with a colon, as `xxd` and `i2cdump` print it; an offset and bars, as `hexdump -C` prints them, an offset and
 /// digits, as `od` does, or an offset and words, as `hexdump` does, where `*` stands for rows that repeat the one above; lines
-/// of a log that end in sixteen bytes; or a list of bytes, with `0x` or without, and commas, colons and blanks between, which
-/// may begin after `<`, `{` or `hex:`. Whether the bytes are those of an EDID is not asked.
+/// of a log that end in sixteen bytes; a list of bytes, with `0x` or without, and commas, colons and blanks between, which
+/// may begin after `<`, `{` or `hex:`, and have a remark at a line's end; digits between tags; an offset and sixteen bytes, as
+/// Format-Hex prints them; records of Intel HEX; pairs with dashes between, escapes or decimal numbers, which may begin within
+/// the first line; or one word of digits with whole blocks. Whether the bytes are those of an EDID is not asked.
 ///
 /// # Errors
 ///

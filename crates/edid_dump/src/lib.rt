@@ -1,6 +1,6 @@
 //! The bytes of EDIDs out of texts with hex dumps: plain digits, as `xxd -p` prints them, the dumps of `xxd`, `hexdump`, `od`,
-//! `i2cdump` and `edid-decode`, and lists of bytes, with other text around, as in the properties that `xrandr` prints or in a log;
-//! how many dumps a text has, and the bytes of each.
+//! `i2cdump` and `edid-decode`, lists of bytes, strings of escapes, decimal numbers and Intel HEX, with other text around, as in the
+//! properties that `xrandr` prints or in a log; how many dumps a text has, and the bytes of each.
 #![tactic(auto)]
 
 mod digits;
@@ -8,7 +8,10 @@ mod dump;
 mod laws;
 mod lists;
 mod nth;
+mod readings;
+mod records;
 mod rows;
+mod spelled;
 
 pub use dump::{DumpError, dump_bytes, looks_like_dump};
 pub use laws::{

@@ -1,15 +1,17 @@
 //! Rows of a hex dump, and the forms that they have.
-ghost use Rattle.std.specs.Prelude.{◌≡◌, ◌<◌, ◌≤◌, ◌^◌, length, IsSome, Some};
+ghost use Rattle.std.specs.Prelude.{◌≡◌, ◌+◌, ◌<◌, ◌≤◌, ◌^◌, length, IsSome, Some};
 ghost use Rattle.std.specs.Option.{option_map};
 ghost use Rattle.std.specs.List.{list_all};
 ghost use Rattle.std.specs.Char.{is_ascii_hexdigit};
 ghost use Rattle.edid_dump.specs.Digits.{bytes_with_row};
-ghost use Rattle.edid_dump.specs.Rows.{after_number, begins_with, column_of, digits_read, digits_start, form_of, has_header, header_in, has_number, has_offset, is_list, is_repeat, is_short, is_star, may_have, next_form, place_of, row, tail_start};
+ghost use Rattle.edid_dump.specs.Rows.{after_number, after_tag, begins_with, digits_read, digits_start, form_of, has_header, has_number, has_offset, has_wide_offset, header_at, header_in, is_repeat, is_short, is_star, may_have, next_form, place_of, reading_of, row, spells_header, table_start, tail_start};
 
-use crate::digits::{Column, is_blank, octal_of, offset_of, pair_count, push_pairs};
-use crate::lists::{list_start, listed_count, push_listed};
+use crate::digits::{Column, is_blank, octal_of, offset_of};
+use crate::lists::{begins, list_start};
+use crate::readings::{Ending, Reading, count_by, push_by};
+use crate::spelled::Spelling;
 use arrayvec::ArrayVec;
-use text_core::{after, before, byte_at};
+use text_core::{after, before, byte_at, len_before};
 
 /// The form of a dump's rows.
 #[derive(Clone, Copy, Debug, PartialEq, Eq)]
@@ -36,6 +38,28 @@ pub enum DumpForm {
     Opened,
     /// A further line of such a list.
     Listed,
+    /// Digits between two tags, as `edid-decode -o xml` prints them.
+    Tagged,
+    /// An offset, sixteen pairs and characters, as Format-Hex of PowerShell prints them.
+    Table,
+    /// A record of Intel HEX.
+    Record,
+    /// Pairs with dashes between, as BitConverter of .NET prints them, from the header on.
+    Dashed,
+    /// A further line of such pairs.
+    DashedMore,
+    /// Escapes in strings of a program, from the header on.
+    Escaped,
+    /// A further line of such strings.
+    EscapedMore,
+    /// Decimal numbers, as JSON has them, from the header on.
+    Decimal,
+    /// A further line of such numbers.
+    DecimalMore,
+    /// One word with all digits, as `reg query` prints it.
+    Word,
+    /// No row: after a form that has one row.
+    Over,
 }
 
 /// The forms of a dump's first row, in the order in which a line is tried.
@@ -50,6 +74,13 @@ const FIRST_FORMS: &[DumpForm] = &[
     DumpForm::Short,
     DumpForm::Words,
     DumpForm::Opened,
+    DumpForm::Tagged,
+    DumpForm::Table,
+    DumpForm::Record,
+    DumpForm::Dashed,
+    DumpForm::Escaped,
+    DumpForm::Decimal,
+    DumpForm::Word,
 ];
 
 /// The header of an EDID (VESA E-EDID, 3.3).
@@ -107,6 +138,39 @@ fn tail_start(count: usize, line: &[u8]) -> Option<usize>
     }
 }
 
+// Where a line goes on after its first tag.
+fn after_tag(line: &[u8]) -> Option<usize>
+    ensures { result ≡ after_tag line.now }
+{
+    let place = len_before(line, b'>');
+    if place < line.len() {
+        Some(place + 1)
+    } else {
+        None
+    }
+}
+
+// An offset of eight digits and three spaces.
+fn has_wide_offset(line: &[u8]) -> bool
+    ensures { result ≡ has_wide_offset line.now }
+{
+    has_offset(line)
+        && (byte_at(line, 8) == b' ' && (byte_at(line, 9) == b' ' && byte_at(line, 10) == b' '))
+}
+
+// Where the digits of Format-Hex begin: after an offset of sixteen digits, or of eight and three spaces.
+fn table_start(line: &[u8]) -> Option<usize>
+    ensures { result ≡ table_start line.now }
+{
+    if has_number(16, line) {
+        Some(17)
+    } else if has_wide_offset(line) {
+        Some(11)
+    } else {
+        None
+    }
+}
+
 // Where the digits of a row begin.
 fn digits_start(form: DumpForm, line: &[u8]) -> Option<usize>
     ensures { result ≡ digits_start form line.now }
@@ -129,23 +193,83 @@ fn digits_start(form: DumpForm, line: &[u8]) -> Option<usize>
         DumpForm::Short => { if is_short(line) { Some(3) } else { None } }
         DumpForm::Opened => Some(list_start(line)),
         DumpForm::Listed => Some(0),
+        DumpForm::Tagged => after_tag(line),
+        DumpForm::Table => table_start(line),
+        DumpForm::Record => {
+            if byte_at(line, 0) == b':' {
+                Some(1)
+            } else {
+                None
+            }
+        }
+        DumpForm::Dashed | DumpForm::Escaped | DumpForm::Decimal | DumpForm::Word => {
+            header_at(form, line)
+        }
+        DumpForm::DashedMore | DumpForm::EscapedMore | DumpForm::DecimalMore => Some(0),
+        DumpForm::Over => None,
     }
 }
 
-fn column_of(form: DumpForm) -> Column
-    ensures { result ≡ column_of form }
+// Whether the header of an EDID stands here, as a form spells it that may begin within a line.
+fn spells_header(form: DumpForm, rest: &[u8]) -> bool
+    ensures { result ≡ spells_header form rest.now }
+{
+    match form {
+        DumpForm::Dashed => {
+            begins(rest, b"00-ff-ff-ff-ff-ff-ff-00") || begins(rest, b"00-FF-FF-FF-FF-FF-FF-00")
+        }
+        DumpForm::Escaped => {
+            begins(rest, b"\\x00\\xff\\xff\\xff\\xff\\xff\\xff\\x00")
+                || begins(rest, b"\\x00\\xFF\\xFF\\xFF\\xFF\\xFF\\xFF\\x00")
+        }
+        DumpForm::Decimal => {
+            begins(rest, b"0,255,255,255,255,255,255,")
+                || begins(rest, b"0, 255, 255, 255, 255, 255, 255,")
+                || begins(rest, b"0 255 255 255 255 255 255 ")
+        }
+        DumpForm::Word => begins(rest, b"00ffffffffffff00") || begins(rest, b"00FFFFFFFFFFFF00"),
+        _ => false,
+    }
+}
+
+// Where the header first stands.
+fn header_at(form: DumpForm, line: &[u8]) -> Option<usize>
+    ensures { result ≡ header_at form 0 line.now }
+{
+    let mut place = 0;
+    let mut rest = line;
+    'bytes: while let [_first, others @ ..] = rest {
+        if spells_header(form, rest) {
+            return Some(place);
+        }
+        place += 1;
+        rest = others;
+    }
+    None
+}
+
+// How the bytes of a row stand in its digits.
+fn reading_of(form: DumpForm) -> Reading
+    ensures { result ≡ reading_of form }
 {
     match form {
         DumpForm::Plain
         | DumpForm::LogPairs
         | DumpForm::LogDigits
         | DumpForm::Words
-        | DumpForm::Opened
-        | DumpForm::Listed => Column::Absent,
-        DumpForm::Colon => Column::AfterGap,
-        DumpForm::Short => Column::AfterGap,
-        DumpForm::Octal | DumpForm::Six => Column::AfterAngle,
-        DumpForm::Bars => Column::AfterBar,
+        | DumpForm::Over => Reading::InPairs(Column::Absent),
+        DumpForm::Colon => Reading::InPairs(Column::AfterGap),
+        DumpForm::Short => Reading::InPairs(Column::AfterGap),
+        DumpForm::Octal | DumpForm::Six => Reading::InPairs(Column::AfterAngle),
+        DumpForm::Bars => Reading::InPairs(Column::AfterBar),
+        DumpForm::Opened | DumpForm::Listed => Reading::InCode,
+        DumpForm::Tagged => Reading::UpTo(Ending::Tag),
+        DumpForm::Table => Reading::UpTo(Ending::Sixteen),
+        DumpForm::Word => Reading::UpTo(Ending::Other),
+        DumpForm::Record => Reading::InRecord,
+        DumpForm::Dashed | DumpForm::DashedMore => Reading::InWords(Spelling::Pair),
+        DumpForm::Escaped | DumpForm::EscapedMore => Reading::InWords(Spelling::Escape),
+        DumpForm::Decimal | DumpForm::DecimalMore => Reading::InWords(Spelling::Number),
     }
 }
 
@@ -161,26 +285,26 @@ fn may_have(form: DumpForm, count: usize) -> bool
         | DumpForm::Short
         | DumpForm::Words
         | DumpForm::Opened
-        | DumpForm::Listed => true,
-        DumpForm::LogPairs | DumpForm::LogDigits => count == 16,
+        | DumpForm::Listed
+        | DumpForm::Over => true,
+        DumpForm::LogPairs | DumpForm::LogDigits | DumpForm::Table => count == 16,
+        DumpForm::Tagged
+        | DumpForm::Record
+        | DumpForm::Dashed
+        | DumpForm::DashedMore
+        | DumpForm::Escaped
+        | DumpForm::EscapedMore
+        | DumpForm::Decimal
+        | DumpForm::DecimalMore => count > 0,
+        DumpForm::Word => count % 128 == 0,
     }
-}
-
-fn is_list(form: DumpForm) -> bool
-    ensures { result ≡ is_list form }
-{
-    matches!(form, DumpForm::Opened | DumpForm::Listed)
 }
 
 // How many bytes digits spell, as a row of this form has them.
 fn digit_count(form: DumpForm, text: &[u8]) -> Option<usize>
     ensures { result ≡ option_map length (digits_read form text.now) }
 {
-    if is_list(form) {
-        listed_count(text)
-    } else {
-        pair_count(column_of(form), text)
-    }
+    count_by(reading_of(form), text)
 }
 
 // Adds the bytes that they spell, as far as there is room.
@@ -188,11 +312,7 @@ fn push_digits(form: DumpForm, text: &[u8], bytes: &mut ArrayVec<u8, 512>)
     requires { IsSome (digits_read form text.now) }
     ensures { bytes_with_row bytes.old.items (digits_read form text.now) ≡ Some bytes.new.items }
 {
-    if is_list(form) {
-        push_listed(text, bytes);
-    } else {
-        push_pairs(column_of(form), text, bytes);
-    }
+    push_by(reading_of(form), text, bytes);
 }
 
 /// How many bytes a line has, where it is a row of this form.
@@ -243,7 +363,18 @@ pub fn is_repeat(form: DumpForm, line: &[u8]) -> bool
         | DumpForm::LogDigits
         | DumpForm::Short
         | DumpForm::Opened
-        | DumpForm::Listed => false,
+        | DumpForm::Listed
+        | DumpForm::Tagged
+        | DumpForm::Table
+        | DumpForm::Record
+        | DumpForm::Dashed
+        | DumpForm::DashedMore
+        | DumpForm::Escaped
+        | DumpForm::EscapedMore
+        | DumpForm::Decimal
+        | DumpForm::DecimalMore
+        | DumpForm::Word
+        | DumpForm::Over => false,
     }
 }
 
@@ -263,7 +394,18 @@ pub fn place_of(form: DumpForm, line: &[u8]) -> u64
         | DumpForm::LogDigits
         | DumpForm::Short
         | DumpForm::Opened
-        | DumpForm::Listed => offset_of(line),
+        | DumpForm::Listed
+        | DumpForm::Tagged
+        | DumpForm::Table
+        | DumpForm::Record
+        | DumpForm::Dashed
+        | DumpForm::DashedMore
+        | DumpForm::Escaped
+        | DumpForm::EscapedMore
+        | DumpForm::Decimal
+        | DumpForm::DecimalMore
+        | DumpForm::Word
+        | DumpForm::Over => offset_of(line),
     }
 }
 
@@ -273,6 +415,10 @@ pub fn next_form(form: DumpForm) -> DumpForm
 {
     match form {
         DumpForm::Opened => DumpForm::Listed,
+        DumpForm::Dashed => DumpForm::DashedMore,
+        DumpForm::Escaped => DumpForm::EscapedMore,
+        DumpForm::Decimal => DumpForm::DecimalMore,
+        DumpForm::Word => DumpForm::Over,
         DumpForm::Plain
         | DumpForm::Colon
         | DumpForm::Bars
@@ -282,7 +428,14 @@ pub fn next_form(form: DumpForm) -> DumpForm
         | DumpForm::LogDigits
         | DumpForm::Short
         | DumpForm::Words
-        | DumpForm::Listed => form,
+        | DumpForm::Listed
+        | DumpForm::Tagged
+        | DumpForm::Table
+        | DumpForm::Record
+        | DumpForm::DashedMore
+        | DumpForm::EscapedMore
+        | DumpForm::DecimalMore
+        | DumpForm::Over => form,
     }
 }
 

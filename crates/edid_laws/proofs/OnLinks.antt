@@ -16,7 +16,7 @@ use Rattle.rules_check.specs.declared.rule.Origin.{Origin}
 use Rattle.rules_check.specs.declared.rule.Rule.TheVariants.{FormatsCarried}
 use Rattle.rules_check.specs.declared.rule.TimingRule.TheVariants.{Carried}
 use Rattle.rules_check.proofs.LawLemmas as check
-use Rattle.rules_link.specs.Offers.{has_code_beyond, is_of_hdmi, is_timing_beyond}
+use Rattle.rules_link.specs.Offers.{has_format_beyond, is_of_hdmi, is_timing_beyond}
 use Rattle.rules_values.specs.ExtParts.{timings_of}
 use Rattle.edid_laws.specs.Links.{IsOnItsLink, StayOnTheirLinks}
 
@@ -39,13 +39,13 @@ no_timing o e fits (suc place) h =
     both (list_any (is_timing_beyond e.extensions.items) (timings_of e.base e.extensions.items))
     (any_at e.base e.extensions.items (timings_of e.base e.extensions.items) place breaks) fits.timings
 
-no_code : (o : Origin) (e : EdidValue) → IsCarried e → IsAmong (OfEdid FormatsCarried) (findings o e.base e.extensions.items) → ⊥
-no_code o e fits h =
+no_format : (o : Origin) (e : EdidValue) → IsCarried e → IsAmong (OfEdid FormatsCarried) (findings o e.base e.extensions.items) → ⊥
+no_format o e fits h =
     let broken = ((check.law o e.base e.extensions.items).edid FormatsCarried).0 h in
-    both (has_code_beyond e.extensions.items) (second (is_of_hdmi e.base) (has_code_beyond e.extensions.items) broken) fits.codes
+    both (has_format_beyond e.extensions.items) (second (is_of_hdmi e.base) (has_format_beyond e.extensions.items) broken) fits.formats
 
 carried : (o : Origin) (e : EdidValue) → IsCarried e → IsOnItsLink o e
-carried o e fits = record { codes = no_code o e fits; timings = no_timing o e fits }
+carried o e fits = record { formats = no_format o e fits; timings = no_timing o e fits }
 
 chosen : (o : Origin) (c : Bool) (merged answer : EdidValue) → c ≡ true → IsPassedBy c merged answer → IsOnItsLink o answer
 chosen o true merged answer h of = carried o answer (fit.law merged answer of)

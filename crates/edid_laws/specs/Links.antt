@@ -11,7 +11,7 @@ use Rattle.rules_check.specs.declared.rule.Rule.TheVariants.{FormatsCarried}
 use Rattle.rules_check.specs.declared.rule.TimingRule.TheVariants.{Carried}
 
 pub record IsOnItsLink (o : Origin) (e : EdidValue) : Type 0 where
-  pub codes : IsAmong (Edid FormatsCarried) (findings o e.base e.extensions.items) → ⊥
+  pub formats : IsAmong (Edid FormatsCarried) (findings o e.base e.extensions.items) → ⊥
   pub timings : (number : ℕ) → IsAmong (Timing number Carried) (findings o e.base e.extensions.items) → ⊥
 
 -- whatever was made of a display's EDID and of a receiver's own

@@ -28,8 +28,8 @@ pub fn merges_to_itself()
     ensures { MergesToItself }
 {}
 
-/// In what a receiver answers with the rule `link-clock` finds no video code and no timing, where what the link does not carry is left
-/// out.
+/// In what a receiver answers with the rule `link-clock` finds no video code, no timing and no format of DisplayID, where what the link
+/// does not carry is left out.
 pub fn answers_stay_on_their_links()
     ensures { StayOnTheirLinks }
 {}

@@ -39,13 +39,9 @@ addressed (Some phys) (Ok bytes) = Ok (record { word = Hdmi; fields = Address ph
 abbrev pub hdmi_line : List (List ℕ) → Result Line ℕ
 hdmi_line words = if is_hex (others_of words) then Err 0 else addressed (phys_of (first_of words)) (hdmi_of (others_of words))
 
--- `vic`, and words; without it the line stays as it is
 abbrev pub with_timing : Result Timed ℕ → Result Line ℕ
 with_timing (Ok t) = Ok (record { word = Timing; fields = OfTiming (record { items = t.numbers }) t.flags })
 with_timing (Err number) = Err number
-
-abbrev pub timing_line : List (List ℕ) → Result Line ℕ
-timing_line words = if bytes_eq (first_of words) (codes "vic") then with_timing (timing_of (others_of words)) else Err 0
 
 -- what words say after a keyword, or the number of the one at fault; 0 where no words go with the keyword
 abbrev pub said_after : List ℕ → List (List ℕ) → Result Line ℕ
@@ -54,7 +50,7 @@ said_after keyword words =
     else if bytes_eq keyword (codes "audio") then with_bytes Audio (descriptors_of words)
     else if bytes_eq keyword (codes "speakers") then with_bytes Speakers (speakers_of words)
     else if bytes_eq keyword (codes "hdmi") then hdmi_line words
-    else if bytes_eq keyword (codes "timing") then timing_line words
+    else if bytes_eq keyword (codes "timing") then with_timing (timing_of words)
     else Err 0
 
 abbrev pub said_by : List (List ℕ) → Result Line ℕ

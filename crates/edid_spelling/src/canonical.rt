@@ -4,7 +4,7 @@ ghost use Rattle.std.specs.List.{before_first, list_all};
 ghost use Rattle.std.specs.Option.{option_copied};
 ghost use Rattle.text_core.specs.Phys.{is_hex_digit, phys_of};
 ghost use Rattle.text_core.specs.Words.{words_after};
-ghost use Rattle.edid_spelling.specs.Canonical.{addressed, canonical_line, canonical_text, doubts, hdmi_line, in_words, is_hex, refused_line, said_after, timing_line, with_bytes, with_timing};
+ghost use Rattle.edid_spelling.specs.Canonical.{addressed, canonical_line, canonical_text, doubts, hdmi_line, in_words, is_hex, refused_line, said_after, with_bytes, with_timing};
 ghost use Rattle.edid_cta.specs.declared.block.BlockKind.{BlockKind as KindValue};
 ghost use Rattle.edid_spelling.specs.Audio.{descriptors_of};
 ghost use Rattle.edid_spelling.specs.Hdmi.{hdmi_of};
@@ -101,7 +101,7 @@ fn hdmi_line(rest: Option<&[u8]>) -> Result<Line, usize>
 }
 
 // The line of a detailed timing.
-fn code_line(rest: Option<&[u8]>) -> Result<Line, usize>
+fn timing_line(rest: Option<&[u8]>) -> Result<Line, usize>
     ensures { result ≡ with_timing (timing_of (words_after (option_copied rest.entry))) }
 {
     match timing_in(rest) {
@@ -110,17 +110,6 @@ fn code_line(rest: Option<&[u8]>) -> Result<Line, usize>
             fields: Fields::Timed(timing.numbers, timing.flags),
         }),
         Err(number) => Err(number),
-    }
-}
-
-fn timing_line(rest: Option<&[u8]>) -> Result<Line, usize>
-    ensures { result ≡ timing_line (words_after (option_copied rest.entry)) }
-{
-    let (word, more) = next_word(rest);
-    if word == b"vic".as_slice() {
-        code_line(more)
-    } else {
-        Err(0)
     }
 }
 

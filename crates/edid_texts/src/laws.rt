@@ -27,3 +27,8 @@ pub fn lines_of_edids_are_lines()
 pub fn edids_have_few_lines()
     ensures { (b : Base) (xs : List Ext) → length xs ≤ 3 → length (part_lines b xs) ≤ 398 }
 {}
+
+/// Two EDIDs with the same lines are the same.
+pub fn lines_are_of_one_edid()
+    ensures { (e f : EdidValue) → edid_lines e ≡ edid_lines f → e ≡ f }
+{}

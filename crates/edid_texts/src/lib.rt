@@ -17,7 +17,9 @@ mod value_to_lines;
 mod writing;
 
 pub use edid_core::{Edid, EdidError, edid_from_bytes, edid_to_bytes};
-pub use laws::{edids_have_few_lines, lines_end_with_feeds, lines_of_edids_are_lines};
+pub use laws::{
+    edids_have_few_lines, lines_are_of_one_edid, lines_end_with_feeds, lines_of_edids_are_lines,
+};
 pub use parse::{TextError, first_line, parse_text};
 pub use value_to_lines::line_at;
 pub use writing::{write_parts, write_text};

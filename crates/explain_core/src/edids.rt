@@ -1,6 +1,6 @@
 //! What is said of EDIDs.
 use arrayvec::ArrayVec;
-use edid_as_source::{as_source, counted};
+use edid_as_source::{as_source, counted, mended};
 use edid_base::BaseError;
 use edid_core::{EdidCause, EdidError, read_parts};
 use edid_dump::{dump_bytes, dump_count};
@@ -99,11 +99,30 @@ fn add_readings(draft: &mut Draft, bytes: &[u8]) {
     }
 }
 
+// Whether bytes are an EDID once their checksums and their count are right.
+#[inline(never)]
+fn is_mended(bytes: &[u8]) -> bool {
+    let mut extensions = ArrayVec::new();
+    match mended(false, bytes) {
+        Ok(made) => read_parts(made.as_slice(), &mut extensions).is_ok(),
+        Err(_) => false,
+    }
+}
+
+// The flag with which bytes are taken whose checksums are wrong.
+fn add_mending(draft: &mut Draft, bytes: &[u8]) {
+    if is_mended(bytes) {
+        draft.add_line("`--mend` takes it, and sets its checksums right");
+    }
+}
+
 // What is at fault in the bytes that are to be an EDID, and the flags with which they are one.
 fn add_fault_of(draft: &mut Draft, error: EdidError, bytes: &[u8]) {
     add_sum_of(draft, error, bytes);
-    if matches!(error, EdidError::Count) {
-        add_readings(draft, bytes);
+    match error {
+        EdidError::Count => add_readings(draft, bytes),
+        EdidError::Base(BaseError::Checksum) | EdidError::Ext(_, _) => add_mending(draft, bytes),
+        EdidError::Base(_) | EdidError::Length => {}
     }
 }
 

@@ -1,15 +1,17 @@
 //! What follows the line of a fault.
 use crate::edids::{add_edid_fault, add_length, add_line_fault};
-use crate::hints::{is_shown, of_edid, of_edid_text, of_line, of_text, without_return};
+use crate::hints::{
+    is_shown, of_edid, of_edid_text, of_file, of_line, of_no_dump, of_text, without_return,
+};
 use crate::right::right;
 use edid_core::{EdidCause, EdidError};
-use edid_dump::looks_like_dump;
+use edid_dump::{DumpError, looks_like_dump};
 use edid_text_lines::WORD_TEXTS;
 use explain_forms::{add_meant, add_right_forms, add_slip};
 use explain_lists::{Draft, Gaps, span_of, word_at};
 use explain_marks::{
-    FaultyLine, Input, InputFault, InputLine, Mark, Parting, WordSlip, gaps_of, is_line_end,
-    label_words, marked, place_in_session, place_of, plain, slip_of,
+    FaultyLine, Input, InputFault, InputLine, Mark, Parting, WholeFault, WordSlip, gaps_of,
+    is_line_end, label_words, marked, place_in_session, place_of, plain, slip_of,
 };
 use rules_explain::lacks_line_feed;
 use std::alloc::{AllocError, Global};
@@ -197,6 +199,14 @@ fn is_of_program(fault: InputFault) -> bool {
     )
 }
 
+// Whether no line of the input begins the dump of an EDID.
+fn is_no_dump(fault: InputFault) -> bool {
+    matches!(
+        fault,
+        InputFault::Whole(WholeFault::Dump(DumpError::NoDump))
+    )
+}
+
 // Whether a fault stands above the lines of a session.
 fn is_of_topology(fault: InputFault) -> bool {
     matches!(
@@ -207,7 +217,13 @@ fn is_of_topology(fault: InputFault) -> bool {
 
 // What is odd about the input.
 fn add_input_hints(draft: &mut Draft, what: Input, fault: InputFault, input: &[u8]) {
+    if what != Input::Session && (is_no_dump(fault) || !is_of_program(fault)) {
+        add_hints(draft, &[of_file(input)]);
+    }
     match what {
+        _ if is_no_dump(fault) && !looks_like_dump(input) => {
+            add_hints(draft, of_no_dump(input).as_slice());
+        }
         _ if is_of_program(fault) => {}
         Input::Session if !is_of_topology(fault) => {}
         Input::EdidBytes => add_edid_hints(draft, fault, input),

@@ -11,6 +11,54 @@ const EDID_HEADER: [u8; 3] = [0x00, 0xff, 0xff];
 /// What is said of a hex dump.
 const HEX_DUMP: &str = "this looks like a hex dump; `edid --hex` reads it";
 
+/// The header of an EDID in base64, but for its last four bits.
+const BASE64_HEADER: &[u8] = b"AP///////w";
+
+/// The same in a string of escapes.
+const ESCAPED_HEADER: &[u8] = b"\\x00\\xff\\xff\\xff\\xff\\xff\\xff\\x00";
+
+/// The first bytes of files of other kinds, and what is said of each.
+const OTHER_FILES: &[(&[u8], &str)] = &[
+    (
+        b"\x1f\x8b",
+        "this is a file of gzip; `zcat` writes what it holds",
+    ),
+    (
+        b"BZh",
+        "this is a file of bzip2; `bzcat` writes what it holds",
+    ),
+    (
+        b"\xfd7zXZ\x00",
+        "this is a file of xz; `xzcat` writes what it holds",
+    ),
+    (
+        b"\x28\xb5\x2f\xfd",
+        "this is a file of zstd; `zstdcat` writes what it holds",
+    ),
+    (
+        b"PK\x03\x04",
+        "this is a zip archive, as sessions of sigrok and of Logic 2 are: `sigrok-cli -i FILE -O vcd` and Logic's Export Data write a capture",
+    ),
+    (
+        b"\x00\x00\x00\x00\x00\x00\x00\x01\x49",
+        "this is a file of GTKWave in its form FST; `fst2vcd` writes a dump",
+    ),
+    (
+        b"RIFF",
+        "this is a file of sound; a capture has the times at which the line changes",
+    ),
+    (
+        b"\x0a\x0d\x0d\x0a",
+        "this is a capture of packets (pcapng); the CEC line has no packets",
+    ),
+    (
+        b"\xd4\xc3\xb2\xa1",
+        "this is a capture of packets (pcap); the CEC line has no packets",
+    ),
+    (b"\x89PNG", "this is a picture"),
+    (b"%PDF", "this is a document in PDF"),
+];
+
 /// Whether a byte is shown as it is.
 pub fn is_shown(byte: u8) -> bool {
     byte == b' ' || byte.is_ascii_graphic()
@@ -59,6 +107,21 @@ pub fn of_line(line: &[u8], shown: &str) -> [Option<&'static str>; 7] {
     ]
 }
 
+// Whether an input begins with the byte order mark of UTF-16.
+fn is_wide(input: &[u8]) -> bool {
+    input.starts_with(b"\xff\xfe") || input.starts_with(b"\xfe\xff")
+}
+
+/// What a file of another kind is, by its first bytes.
+pub fn of_file(input: &[u8]) -> Option<&'static str> {
+    for (front, said) in OTHER_FILES {
+        if input.starts_with(front) {
+            return Some(said);
+        }
+    }
+    None
+}
+
 /// What is odd about the start of a whole input of lines.
 pub fn of_text(input: &[u8]) -> [Option<&'static str>; 4] {
     [
@@ -66,9 +129,7 @@ pub fn of_text(input: &[u8]) -> [Option<&'static str>; 4] {
         input.starts_with(BYTE_ORDER_MARK.as_slice()).then_some(
             "the input begins with a byte order mark, ef bb bf, which is no part of the text",
         ),
-        (input.starts_with(b"\xff\xfe") || input.starts_with(b"\xfe\xff")).then_some(
-            "this looks like UTF-16; the text has one byte a character",
-        ),
+        is_wide(input).then_some("this looks like UTF-16; the text has one byte a character"),
         input.starts_with(EDID_HEADER.as_slice()).then_some(
             "this looks like the bytes of an EDID, which `edid` reads without `--text`",
         ),
@@ -82,6 +143,39 @@ pub fn of_edid(input: &[u8]) -> [Option<&'static str>; 3] {
         looks_like_dump(input).then_some(HEX_DUMP),
         input.starts_with(b"edid 1.").then_some(
             "this looks like the text of an EDID, which `edid --text` reads",
+        ),
+    ]
+}
+
+// Whether some bytes stand in an input one after the other.
+fn has(input: &[u8], part: &[u8]) -> bool {
+    !part.is_empty() && input.windows(part.len()).any(|bytes| bytes == part)
+}
+
+/// What an input is that has no hex dump of an EDID.
+pub fn of_no_dump(input: &[u8]) -> [Option<&'static str>; 8] {
+    [
+        input.is_empty().then_some("the input is empty"),
+        input.starts_with(EDID_HEADER.as_slice()).then_some(
+            "these are the bytes of an EDID, which `edid` reads without `--hex`",
+        ),
+        input.starts_with(b"edid 1.").then_some(
+            "this looks like the text of an EDID, which `edid --text` reads",
+        ),
+        is_wide(input).then_some(
+            "this looks like UTF-16; a dump has one byte a character, as `iconv -f utf-16 -t utf-8` writes it",
+        ),
+        has(input, BASE64_HEADER).then_some(
+            "this looks like base64; `base64 -d` writes its bytes, which `edid` reads without `--hex`",
+        ),
+        input.starts_with(b":").then_some(
+            "this looks like Intel HEX; a record whose count, type or sum is wrong is passed over",
+        ),
+        (input.starts_with(b"S0") || input.starts_with(b"S1")).then_some(
+            "this looks like S-records of Motorola; `objcopy -I srec -O binary` writes their bytes, which `edid` reads without `--hex`",
+        ),
+        has(input, ESCAPED_HEADER).then_some(
+            "in a string with escapes each byte is `\\x` and two hex digits; here some stand as characters",
         ),
     ]
 }

@@ -68,7 +68,7 @@ const IN_WORDS: &[(&str, &str)] = &[
     ),
     (
         "timing",
-        "`timing vic N`, and after it perhaps the image's sides in mm, 0 to 4095: N is 2 to 7, 16 to 22, 31 to 34, 40, 41, 46, 47, 63, 64, 95 or 97",
+        "`timing vic N`, and after it perhaps the image's sides in mm, 0 to 4095: N is 2 to 7, 16 to 22, 31 to 34, 40, 41, 46, 47, 63, 64, 95 or 97; or `timing dmt ID`, where ID is two hex digits, 01 to 56 but 04; or by a formula `timing cvt W H HZ`, `timing cvt-rb W H HZ` or `timing gtf W H HZ`, and perhaps the sides: W is a multiple of 8, W and H are 1 to 4095, HZ is 1 to 500, and where a detailed timing has no room for what the formula gives, as its clock is above 65535 times 10 kHz, HZ is at fault",
     ),
 ];
 

@@ -8,9 +8,9 @@ use expect_text::ExpectCause;
 use explain_again::Spot;
 use explain_lists::{Draft, word_at, word_count};
 use explain_marks::{
-    FaultyLine, Input, InputFault, InputLine, LAID, REFUSALS, REMARKS, SCRIPT, SESSION, STEPS,
-    TEST, TOPOLOGY, as_form, fitting, forms_of, frame_start, is_word, label_words, missing,
-    most_fitting, plain, slip_of, without_label,
+    FaultyLine, Input, InputFault, InputLine, LAID, Lines, REFUSALS, REMARKS, SCRIPT, SESSION,
+    STEPS, TEST, TOPOLOGY, as_form, fitting, forms_in, forms_of, frame_start, is_word, label_words,
+    missing, most_fitting, plain, slip_of, without_label,
 };
 use message_lay::LayCause;
 use room_script::{ScriptCause, TopologyCause};
@@ -27,29 +27,28 @@ pub fn add_missing(draft: &mut Draft, word: Option<&str>) {
 }
 
 // The forms that a line fits as far as any.
-fn add_fitting(draft: &mut Draft, forms: &[&[&str]], line: &str) {
-    let most = most_fitting(forms, line);
+fn add_fitting(draft: &mut Draft, lines: &[Lines], line: &str) {
+    let most = most_fitting(lines, line);
+    let forms = forms_in(lines);
     let mut before = "  a line here reads `";
-    for some in forms {
-        for form in *some {
-            if fitting(form, line) == most {
-                draft.add(before);
-                draft.add(form);
-                before = "`, `";
-            }
+    for form in forms.as_slice() {
+        if fitting(*form, line) == most {
+            draft.add(before);
+            form.add_to(draft);
+            before = "`, `";
         }
     }
     draft.add("`\n");
 }
 
 // The forms that a line fits as far as any, and the word that it lacks.
-fn add_forms(draft: &mut Draft, forms: &[&[&str]], line: &str) {
-    add_fitting(draft, forms, line);
-    add_missing(draft, missing(forms, line));
+fn add_forms(draft: &mut Draft, lines: &[Lines], line: &str) {
+    add_fitting(draft, lines, line);
+    add_missing(draft, missing(lines, line));
 }
 
 // The forms of a script's lines, which may have labels and expectations among them in a test.
-fn script_forms(what: Input) -> &'static [&'static [&'static str]] {
+fn script_forms(what: Input) -> &'static [Lines] {
     match what {
         Input::Test => TEST,
         Input::Session => SESSION,
@@ -208,10 +207,13 @@ fn add_expectation(draft: &mut Draft, at: FaultyLine<'_>, cause: ExpectCause) ->
     false
 }
 
+/// The words after `timing` that name one.
+const NAMED_TIMINGS: &[&str] = &["vic", "dmt", "cvt", "cvt-rb", "gtf"];
+
 // Whether the payload of a line stands in words: it is not one word of hex digits, two a byte.
 fn stands_in_words(word: &str, line: &str) -> bool {
     match word {
-        "timing" => is_word(line, 1, "vic"),
+        "timing" => NAMED_TIMINGS.iter().any(|name| is_word(line, 1, name)),
         "hdmi" => !is_hex_alone(line, 2),
         _ => !is_hex_alone(line, 1),
     }

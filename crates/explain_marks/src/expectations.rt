@@ -1,5 +1,6 @@
 //! The lines of the script of a test: labels and expectations.
 use crate::fault::Input;
+use crate::form::Lines;
 use crate::grammar::{CAPTURE_EXPECTATIONS, EXPECTATIONS};
 use crate::marks::{Mark, is_word};
 use explain_lists::word_at;
@@ -60,7 +61,7 @@ pub fn window_start(line: &str) -> usize {
 }
 
 /// The forms of the lines of expectations, of a script or of a capture.
-pub fn forms_of(what: Input) -> &'static [&'static [&'static str]] {
+pub fn forms_of(what: Input) -> &'static [Lines] {
     match what {
         Input::CaptureTest => CAPTURE_EXPECTATIONS,
         _ => EXPECTATIONS,

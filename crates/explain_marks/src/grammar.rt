@@ -1,34 +1,9 @@
-//! The forms of the lines of topologies, scripts and steps. A word in capitals stands for a value.
-use device_features::KeyWord;
+//! The lines that each input has. Those of topologies, scripts, sessions and steps are the rows of their tables.
+use crate::form::Lines;
 use room_lines::SCRIPT as SCRIPT_ROWS;
-use text_core::Kind;
 use text_forms::Slot;
 
-// The lines of a topology.
-const OF_TOPOLOGY: &[&str] = &[
-    "device NAME KIND PORTS",
-    "plug CHILD PARENT PORT",
-    "edid HEX",
-];
-
-// The lines of a script.
-const OF_SCRIPT: &[&str] = &[
-    "at T press NAME KEY",
-    "at T release NAME KEY",
-    "at T plug CHILD PARENT PORT",
-    "at T unplug CHILD",
-    "at T send NAME FRAME",
-    "at T send NAME hex HEX",
-    "at T send NAME attempts N FRAME",
-    "at T hold NAME ADDRS",
-    "at T drop NAME",
-    "pulse T WIDTH",
-    "pull T WIDTH",
-    "pin T LEVEL",
-    "end T",
-];
-
-// The line between them.
+// The line between a topology and a script.
 const PARTING: &[&str] = &["script"];
 
 // A label before a line.
@@ -105,19 +80,6 @@ const BESIDE_READINGS: &[&str] = &[
     "label NAME at T",
 ];
 
-// The lines that a session has besides those of a script.
-const OF_SESSION: &[&str] = &[
-    "run to T",
-    "wait",
-    "wait T",
-    "show NAME",
-    "edge T",
-    "edges on",
-    "edges off",
-    "seats on",
-    "seats off",
-];
-
 // The lines of frames to lay.
 const OF_LAID: &[&str] = &[
     "T FRAME",
@@ -129,45 +91,50 @@ const OF_LAID: &[&str] = &[
     "T glitch SLOT AFTER LOW FRAME",
 ];
 
-// The lines of steps.
-const OF_STEPS: &[&str] = &[
-    "edge",
-    "round",
-    "until opcode XX",
-    "until device NAME",
-    "until break",
-    "show NAME",
-];
-
 /// The lines of a topology.
-pub const TOPOLOGY: &[&[&str]] = &[OF_TOPOLOGY];
+pub const TOPOLOGY: &[Lines] = &[Lines::Topology];
 
 /// The lines of a script.
-pub const SCRIPT: &[&[&str]] = &[OF_SCRIPT];
+pub const SCRIPT: &[Lines] = &[Lines::Script];
 
 /// The lines of a session after the line `script`.
-pub const SESSION: &[&[&str]] = &[OF_SCRIPT, OF_SESSION];
+pub const SESSION: &[Lines] = &[Lines::Script, Lines::Session];
 
 /// The lines that a session has besides those of a script.
-pub const SESSION_ALONE: &[&[&str]] = &[OF_SESSION];
+pub const SESSION_ALONE: &[Lines] = &[Lines::Session];
 
 /// The lines of a topology and a script, and the one between them.
-pub const NETWORK: &[&[&str]] = &[OF_TOPOLOGY, PARTING, OF_SCRIPT];
+pub const NETWORK: &[Lines] = &[Lines::Topology, Lines::Texts(PARTING), Lines::Script];
 
 /// The lines of the script of a test: those of a script, with a label before them or not, and expectations.
-pub const TEST: &[&[&str]] = &[OF_SCRIPT, LABEL, OF_ROUNDS, BESIDE_ROUNDS];
+pub const TEST: &[Lines] = &[
+    Lines::Script,
+    Lines::Texts(LABEL),
+    Lines::Texts(OF_ROUNDS),
+    Lines::Texts(BESIDE_ROUNDS),
+];
 
 /// The lines of expectations, and the line of a label.
-pub const EXPECTATIONS: &[&[&str]] = &[OF_ROUNDS, OF_COUNTS, BESIDE_ROUNDS, LABEL];
+pub const EXPECTATIONS: &[Lines] = &[
+    Lines::Texts(OF_ROUNDS),
+    Lines::Texts(OF_COUNTS),
+    Lines::Texts(BESIDE_ROUNDS),
+    Lines::Texts(LABEL),
+];
 
 /// The lines of the expectations of a capture.
-pub const CAPTURE_EXPECTATIONS: &[&[&str]] = &[OF_ROUNDS, OF_COUNTS, BESIDE_READINGS, LABEL];
+pub const CAPTURE_EXPECTATIONS: &[Lines] = &[
+    Lines::Texts(OF_ROUNDS),
+    Lines::Texts(OF_COUNTS),
+    Lines::Texts(BESIDE_READINGS),
+    Lines::Texts(LABEL),
+];
 
 /// The lines of frames to lay.
-pub const LAID: &[&[&str]] = &[OF_LAID];
+pub const LAID: &[Lines] = &[Lines::Texts(OF_LAID)];
 
 /// The steps.
-pub const STEPS: &[&[&str]] = &[OF_STEPS];
+pub const STEPS: &[Lines] = &[Lines::Steps];
 
 // Whether a place of a form has this word itself.
 fn is_own(place: (Slot, &str), word: &str) -> bool {
@@ -206,120 +173,4 @@ pub fn is_event_word(word: &str) -> bool {
         }
     }
     false
-}
-
-/// Whether a word of a form stands for a value.
-pub fn is_value(wanted: &str) -> bool {
-    match wanted.as_bytes().first() {
-        Some(byte) => byte.is_ascii_uppercase(),
-        None => false,
-    }
-}
-
-// Whether a byte is a hex digit as opcodes are written.
-fn is_digit(byte: u8) -> bool {
-    byte.is_ascii_digit() || (b'a'..=b'f').contains(&byte)
-}
-
-// Whether a byte is a logical address of a device: 0 to e.
-fn is_address(byte: u8) -> bool {
-    is_digit(byte) && byte != b'f'
-}
-
-// Whether a word is an opcode: two hex digits in lower case.
-fn is_opcode(word: &str) -> bool {
-    word.len() == 2 && word.bytes().all(is_digit)
-}
-
-// Whether a digit stands once in a word.
-fn stands_once(word: &str, digit: u8) -> bool {
-    let mut count = 0usize;
-    for other in word.bytes() {
-        if other == digit {
-            count = count.saturating_add(1);
-        }
-    }
-    count == 1
-}
-
-// Whether a word says what a device from outside holds: `-`, or one to four logical addresses.
-fn is_held(word: &str) -> bool {
-    if word == "-" {
-        return true;
-    }
-    for part in word.split('+') {
-        match part.as_bytes() {
-            [digit] if is_address(*digit) && stands_once(word, *digit) => {}
-            _ => return false,
-        }
-    }
-    word.len() <= 7
-}
-
-// Whether a word may stand where a form has another.
-fn fits(wanted: &str, word: &str) -> bool {
-    match wanted {
-        "KIND" => Kind::named(word.as_bytes()).is_some(),
-        "KEY" => KeyWord::named(word.as_bytes()).is_some(),
-        "XX" => is_opcode(word),
-        "ADDRS" => is_held(word),
-        _ => is_value(wanted) || wanted == word,
-    }
-}
-
-/// How many words of a line, from the left, fit a form.
-pub fn fitting(form: &str, line: &str) -> usize {
-    let mut words = line.split(' ');
-    let mut count = 0usize;
-    for wanted in form.split(' ') {
-        match words.next() {
-            Some(word) if fits(wanted, word) => count = count.saturating_add(1),
-            _ => return count,
-        }
-    }
-    count
-}
-
-/// The most words of a line that fit one of the forms: the word after them is the first that fits none.
-pub fn most_fitting(forms: &[&[&str]], line: &str) -> usize {
-    let mut most = 0;
-    for some in forms {
-        for form in *some {
-            most = most.max(fitting(form, line));
-        }
-    }
-    most
-}
-
-/// The word that stands for itself and that a line has to have at a place, where one form alone fits the words before it.
-pub fn wanted_at<'a>(forms: &[&[&'a str]], line: &str, place: usize) -> Option<&'a str> {
-    let mut wanted = None;
-    for some in forms {
-        for form in *some {
-            if fitting(form, line) == place {
-                if wanted.is_some() {
-                    return None;
-                }
-                wanted = form.split(' ').nth(place);
-            }
-        }
-    }
-    wanted.filter(|word| !is_value(word))
-}
-
-/// The word that a line lacks at its end, where one form alone fits all that it has.
-pub fn missing<'a>(forms: &[&[&'a str]], line: &str) -> Option<&'a str> {
-    let count = line.split(' ').count();
-    let mut missing = None;
-    for some in forms {
-        for form in *some {
-            if fitting(form, line) == count {
-                if missing.is_some() {
-                    return None;
-                }
-                missing = form.split(' ').nth(count);
-            }
-        }
-    }
-    missing
 }

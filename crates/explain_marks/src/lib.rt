@@ -6,6 +6,7 @@
 mod edges;
 mod expectations;
 mod fault;
+mod form;
 mod grammar;
 mod marks;
 mod place;
@@ -15,9 +16,10 @@ pub use expectations::{
     as_form, forms_of, label_words, labelled_by, plain, window_start, without_label,
 };
 pub use fault::{Input, InputFault, Parting, WholeFault};
+pub use form::{Form, Lines, fitting, forms_in, is_value, missing, most_fitting, wanted_at};
 pub use grammar::{
     EXPECTATIONS, LAID, NETWORK, REFUSALS, REMARKS, SCRIPT, SESSION, SESSION_ALONE, STEPS, TEST,
-    TOPOLOGY, fitting, is_event_word, is_script_verb, is_value, missing, most_fitting, wanted_at,
+    TOPOLOGY, is_event_word, is_script_verb,
 };
 pub use marks::{Mark, frame_start, gaps_of, is_number, is_word, marked};
 pub use place::{

@@ -2,7 +2,8 @@
 use crate::edges::in_line;
 use crate::expectations::{after_label, label_words};
 use crate::fault::{Input, InputFault};
-use crate::grammar::{SESSION_ALONE, most_fitting};
+use crate::form::most_fitting;
+use crate::grammar::SESSION_ALONE;
 use crate::slips::slip_of;
 use capture_forms::{CaptureForm, Cause};
 use expect_text::ExpectCause;

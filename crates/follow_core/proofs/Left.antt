@@ -27,6 +27,7 @@ use Rattle.capture_forms.specs.Captures.{of_edges}
 use Rattle.capture_csv.specs.Csv.{column_of, column_read, csv_form, named_read}
 use Rattle.capture_csv.specs.Csv.{first_reader as first_rows, took as row_took, word_at_fault as row_at_fault}
 use Rattle.capture_csv.specs.Sampling.{CsvLinesAreEarly, CsvLinesGoOn}
+use Rattle.capture_csv.specs.declared.column.Column.{Column}
 use Rattle.capture_csv.specs.declared.reader.CsvReader.{CsvReader}
 use Rattle.follow_core.specs.Lines.{EndsLines, IsEarly, TakesLine, after_line, after_said, file_left, from_by, from_of, lines_left, names_left, rows_by, rows_left, took_line}
 use Rattle.follow_core.specs.declared.edge_lines.EdgeReader.{EdgeReader}
@@ -172,7 +173,7 @@ pub names_first : (signal : List ℕ) (lines : List (List ℕ)) → names_left s
 names_first signal [] = refl
 names_first signal (line ∷ lines) = by (column_of signal line)
   where
-    by : (o : Option ℕ) → rows_left 2 lines (rows_by 1 o) ≡ column_read o lines
+    by : (o : Option Column) → rows_left 2 lines (rows_by 1 o) ≡ column_read o lines
     by None = refl
     by (Some column) = refl
 
@@ -229,7 +230,7 @@ rest_of file pin csv signal (Pin r) number rest c early h =
     record { is_low = r.track.was_low; turn = g.0; ends = g.1; reach = omega (arith, at) }
 rest_of file pin csv signal Names number rest c early h = names_rest rest h
   where
-    column_rest : (lines : List (List ℕ)) (column : Option ℕ) → rows_left (number + 1) lines (rows_by number column) ≡ Ok c → IsRest Names c
+    column_rest : (lines : List (List ℕ)) (column : Option Column) → rows_left (number + 1) lines (rows_by number column) ≡ Ok c → IsRest Names c
     column_rest lines None k = cc
     column_rest lines (Some column) k =
         let g = csv (number + 1) lines (first_rows column) c (omega arith) k in

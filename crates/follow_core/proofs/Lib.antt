@@ -1,5 +1,7 @@
 pub mod Left
 pub mod Told
+pub mod Begun
+pub mod Showing
 pub mod Onward
 pub mod Followed
 pub mod Written

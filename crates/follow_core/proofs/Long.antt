@@ -16,7 +16,7 @@ use Rattle.follow_core.specs.declared.error.FollowError.{FollowError}
 use Rattle.follow_core.specs.declared.error.FollowError.TheVariants.{Capture, Read, TooLong, Write}
 use Rattle.follow_core.specs.declared.follower.Follower.{Follower}
 use Rattle.follow_core.specs.declared.lines.LineForm.{LineForm}
-use Rattle.record_core.specs.declared.cell.Form.{Form}
+use Rattle.follow_core.specs.declared.view.ReadingView.{ReadingView}
 use Rattle.follow_core.proofs.Written.{Going, came_first, up_to_date}
 
 -- ---- a line of which so much has come
@@ -72,26 +72,26 @@ long_lines_are_too_much known now next past line come h = inl (long_line known n
 
 -- ---- no line was read
 
-pub line_fails : (form : LineForm) (signal : List ℕ) (written : Form) (how : Reception) (known now next before after : Option (List ℕ)) (f : Follower) (number : ℕ) (line : List ℕ) (fault : IncomingFault) → Going form signal written how known now before after f number
-    → IsNext now next line (Err fault) → Follows form signal written how known before after (Err (line_error fault))
-line_fails form signal written how known now next before after f number line line_fault.Read g h = record {
+pub line_fails : (form : LineForm) (signal : List ℕ) (view : ReadingView) (how : Reception) (known now next before after : Option (List ℕ)) (f : Follower) (number : ℕ) (line : List ℕ) (fault : IncomingFault) → Going form signal view how known now before after f number
+    → IsNext now next line (Err fault) → Follows form signal view how known before after (Err (line_error fault))
+line_fails form signal view how known now next before after f number line line_fault.Read g h = record {
   past = g.past;
   came = came_first known now g.past g.come;
-  written = up_to_date form signal written how known now before after after f number g (Appends-nil after);
+  written = up_to_date form signal view how known now before after after f number g (Appends-nil after);
 }
-line_fails form signal written how known now next before after f number line line_fault.TooLong g h = record {
+line_fails form signal view how known now next before after f number line line_fault.TooLong g h = record {
   past = g.past;
   over = long_lines_are_too_much known now next g.past line g.come h;
-  written = up_to_date form signal written how known now before after after f number g (Appends-nil after);
+  written = up_to_date form signal view how known now before after after f number g (Appends-nil after);
 }
 
 -- as many lines as are counted
-pub lines_run_out : (form : LineForm) (signal : List ℕ) (written : Form) (how : Reception) (known now before after : Option (List ℕ)) (f : Follower) (number : ℕ) → Going form signal written how known now before after f number → number ≡ 18446744073709551615 + 1
-    → Follows form signal written how known before after (Err TooLong)
-lines_run_out form signal written how known now before after f number g last = record {
+pub lines_run_out : (form : LineForm) (signal : List ℕ) (view : ReadingView) (how : Reception) (known now before after : Option (List ℕ)) (f : Follower) (number : ℕ) → Going form signal view how known now before after f number → number ≡ 18446744073709551615 + 1
+    → Follows form signal view how known before after (Err TooLong)
+lines_run_out form signal view how known now before after f number g last = record {
   past = g.past;
   over = inr (let count = g.count in omega (arith, count, last), came_first known now g.past g.come);
-  written = up_to_date form signal written how known now before after after f number g (Appends-nil after);
+  written = up_to_date form signal view how known now before after after f number g (Appends-nil after);
 }
 
 -- ---- nothing is held back

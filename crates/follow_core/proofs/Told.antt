@@ -1,5 +1,5 @@
 -- What a monitor that follows a capture was told of its line, and the readings that have ended.
-use Rattle.std.proofs.Common.{append_assoc, option_map, ◌≡◌, ℕ, suc, max, ◌+◌, ◌-◌, ◌<◌, ◌≤◌, ◌&&◌, ◌⊎◌, inl, inr, Bool, true, false, nat_lt, if◌then◌else◌, List, [], ◌∷◌, ◌++◌, Option, Some, None, refl, sym, ap, subst, ◌∙◌, append-nil, arith}
+use Rattle.std.proofs.Common.{append_assoc, option_map, ◌≡◌, ℕ, suc, max, ◌+◌, ◌-◌, ◌<◌, ◌≤◌, ◌&&◌, ◌⊎◌, inl, inr, not, Bool, true, false, nat_lt, if◌then◌else◌, List, [], ◌∷◌, ◌++◌, Option, Some, None, refl, sym, ap, subst, ◌∙◌, append-nil, arith}
 use Rattle.std.specs.Option.{option_to_list}
 use Rattle.std.proofs.Math.Nat.{le-max_left, le-max_right, max-eq_left, max-eq_right}
 use Rattle.std.proofs.lemmas.Bool.Decides.{nat_tests}
@@ -12,7 +12,8 @@ use Rattle.capture_core.specs.Edges.{AreInTurn, level_at, line_of_edges}
 use Rattle.capture_monitor.specs.Monitor.{FollowsCalmBy, FollowsEdgeBy, FollowsEndBy, HeardBeforeBy}
 use Rattle.capture_monitor.specs.ReadBy.{ended_before_by, readings_by}
 use Rattle.capture_monitor.proofs.ReadBy.{ended_first}
-use Rattle.follow_core.specs.Teller.{IsTold, IsToldEarly, IsUntold, NoneBefore, TellsCalm, TellsEdge, TellsEnd, TellsPassed, ToldComeFirst}
+use Rattle.capture_join.specs.Joined.{FindsCalm, FindsEdge, FindsEnd, IsSought, Stays}
+use Rattle.follow_core.specs.Teller.{IsTold, IsToldEarly, IsUntold, NoneBefore, TellsCalm, TellsEdge, TellsEnd, TellsIdle, TellsPassed, ToldComeFirst}
 use Rattle.line_reading.specs.Reports.{listed_as}
 use Rattle.capture_through.specs.declared.passed.Passed.{Passed}
 use Rattle.follow_core.specs.declared.teller.PassedReadings.{PassedReadings}
@@ -23,9 +24,9 @@ grown xs ys ended o is more = ap (λ (t : List Listed). t ++ option_to_list o) i
 
 -- ---- the begin
 
-pub told_first : (win : Windows) (t : Teller) → ((low : Line) → HeardBeforeBy win t.monitor low 0) → t.known ≡ 0 → IsUntold win t
+pub told_first : (win : Windows) (t : Teller) → ((low : Line) → HeardBeforeBy win t.monitor low 0) → ((low : Line) → IsSought t.search low 0) → t.known ≡ 0 → IsUntold win t
 unfolding ended_before_by
-told_first win t heard known edges end turn ends = record {
+told_first win t heard sought known edges end turn ends = record {
   is_low = false;
   level = λ u l. refl;
   before = ap (was_low (line_of_edges edges)) known ∙ (let x : nat_lt 0 0 ≡ false = grind (arith, nat_tests) in ap (λ b. b && line_of_edges edges (0 - 1)) x);
@@ -34,6 +35,7 @@ told_first win t heard known edges end turn ends = record {
   reach = omega (arith, known);
   heard = subst (λ n. HeardBeforeBy win t.monitor (line_of_edges edges) n) (sym known) (heard (line_of_edges edges));
   listed = ap (ended_before_by win (line_of_edges edges)) (sym known);
+  sought = subst (λ n. IsSought t.search (line_of_edges edges) n) (sym known) (sought (line_of_edges edges));
 }
 
 -- ---- an edge
@@ -48,9 +50,13 @@ was_next low t =
     let some : nat_lt 0 (t + 1) ≡ true = grind (arith, nat_tests) in
     rw some (ap low (let x : t + 1 - 1 ≡ t = omega arith in x))
 
+not_twice : (b c : Bool) → c ≡ not b → b ≡ not c
+not_twice true c is = ap not (sym is)
+not_twice false c is = ap not (sym is)
+
 told_edge : (win : Windows) (old new : Teller) (low : Line) (e : Edge) (edges : List Edge) (end : ℕ) (ended : List Listed) (reported : Option Listed) → new.known ≡ e.at + 1 → IsTold win old low (e ∷ edges) end ended
-    → FollowsEdgeBy win old.monitor e reported new.monitor → IsTold win new low edges end (ended ++ option_to_list reported)
-told_edge win old new low e edges end ended reported known w follows = record {
+    → FollowsEdgeBy win old.monitor e reported new.monitor → FindsEdge old.search e new.search → IsTold win new low edges end (ended ++ option_to_list reported)
+told_edge win old new low e edges end ended reported known w follows finds = record {
   is_low = e.low;
   level = λ u l. later u (omega (arith, known, l));
   before = ap (was_low low) known ∙ was_next low e.at ∙ now_is;
@@ -59,13 +65,17 @@ told_edge win old new low e edges end ended reported known w follows = record {
   reach = let last = w.ends.0 in omega (arith, known, last);
   heard = subst (λ n. HeardBeforeBy win new.monitor low n) (sym known) d.0;
   listed = grown (ended_before_by win low old.known) (ended_before_by win low new.known) ended reported w.listed (ap (ended_before_by win low) (let x : new.known ≡ suc e.at = omega (arith, known) in x) ∙ d.1);
+  sought = subst (λ n. IsSought new.search low n) (sym known) (finds low old.known w.sought after (λ u l s. quiet u l s ∙ sym w.before) (w.before ∙ not_twice w.is_low e.low w.turn.0) now_is);
 }
   where
     after : old.known ≤ e.at
     after = w.turn.1
 
+    quiet : (u : ℕ) → old.known ≤ u → u < e.at → low u ≡ w.is_low
+    quiet u l s = w.level u l ∙ ap (λ b. if b then w.is_low else level_at e.low edges u) (let x : nat_lt u e.at ≡ true = grind (arith, nat_tests) in x)
+
     calm : (u : ℕ) → old.known ≤ u → u < e.at → low u ≡ old.monitor.receiver.receiver.was_low
-    calm u l s = w.level u l ∙ ap (λ b. if b then w.is_low else level_at e.low edges u) (let x : nat_lt u e.at ≡ true = grind (arith, nat_tests) in x) ∙ sym w.before ∙ sym w.heard.stood.level
+    calm u l s = quiet u l s ∙ sym w.before ∙ sym w.heard.stood.level
 
     later : (u : ℕ) → e.at ≤ u → low u ≡ level_at e.low edges u
     later u l = w.level u (omega (arith, after)) ∙ ap (λ b. if b then w.is_low else level_at e.low edges u) (let x : nat_lt u e.at ≡ false = grind (arith, nat_tests) in x)
@@ -77,15 +87,25 @@ told_edge win old new low e edges end ended reported known w follows = record {
     d = follows low old.known w.heard after calm now_is
 
 pub tells_edge : (old new : Teller) (edge : Option Edge) (e : Edge) (reported : Option Listed) → edge ≡ Some e → e.at ≤ latest_instant → new.known ≡ e.at + 1
-    → ((win : Windows) → FollowsEdgeBy win old.monitor e reported new.monitor) → TellsEdge old edge reported new
-tells_edge old new edge e reported is early known follows = record {
+    → ((win : Windows) → FollowsEdgeBy win old.monitor e reported new.monitor) → FindsEdge old.search e new.search → Stays old.search.found new.search.found → TellsEdge old edge reported new
+tells_edge old new edge e reported is early known follows finds stays = record {
+  stays = stays;
   early = omega (arith, known, early);
   told = λ win low edges end ended w.
-      told_edge win old new low e edges end ended reported known (subst (λ (o : Option Edge). IsTold win old low (option_to_list o ++ edges) end ended) is w) (follows win);
+      told_edge win old new low e edges end ended reported known (subst (λ (o : Option Edge). IsTold win old low (option_to_list o ++ edges) end ended) is w) (follows win) finds;
 }
+
+same_stays : (o : Option ℕ) → Stays o o
+same_stays None = tt
+same_stays (Some t) = refl
+
+pub later_stays : (a b c : Option ℕ) → Stays a b → Stays b c → Stays a c
+later_stays None b c one two = tt
+later_stays (Some t) b c one two = subst (λ (o : Option ℕ). Stays o c) one two
 
 pub tells_none : (t : Teller) (edge : Option Edge) → edge ≡ None → IsToldEarly t → TellsEdge t edge None t
 tells_none t edge is early = record {
+  stays = same_stays t.search.found;
   early = early;
   told = λ win low edges end ended w.
       subst (λ (xs : List Listed). IsTold win t low edges end xs) (sym (append-nil ended)) (subst (λ (o : Option Edge). IsTold win t low (option_to_list o ++ edges) end ended) is w);
@@ -98,8 +118,8 @@ later_turn is_low known until [] h none = tt
 later_turn is_low known until (e ∷ edges) h none = (h.0, none.1.1, h.2)
 
 told_calm : (win : Windows) (old new : Teller) (low : Line) (edges : List Edge) (end : ℕ) (ended : List Listed) (reported : Option Listed) → IsTold win old low edges end ended
-    → old.known ≤ new.known → new.known ≤ end + 1 → NoneBefore new.known edges → FollowsCalmBy win old.monitor new.known reported new.monitor → IsTold win new low edges end (ended ++ option_to_list reported)
-told_calm win old new low edges end ended reported w l reach none follows = record {
+    → old.known ≤ new.known → new.known ≤ end + 1 → NoneBefore new.known edges → FollowsCalmBy win old.monitor new.known reported new.monitor → FindsCalm old.search new.known new.search → IsTold win new low edges end (ended ++ option_to_list reported)
+told_calm win old new low edges end ended reported w l reach none follows finds = record {
   is_low = w.is_low;
   level = λ u k. w.level u (omega (arith, l, k));
   before = here (nat_lt old.known new.known) refl;
@@ -108,6 +128,7 @@ told_calm win old new low edges end ended reported w l reach none follows = reco
   reach = reach;
   heard = d.0;
   listed = grown (ended_before_by win low old.known) (ended_before_by win low new.known) ended reported w.listed d.1;
+  sought = finds low old.known w.sought l (λ u k s. quiet u k s ∙ sym w.before);
 }
   where
     turn : AreInTurn w.is_low new.known edges
@@ -128,19 +149,21 @@ told_calm win old new low edges end ended reported w l reach none follows = reco
 
 -- up to one of two instants that is not before the other
 tells_until : (old new : Teller) (from : ℕ) (reported : Option Listed) → IsToldEarly old → from ≤ latest_instant + 1
-    → (old.known ≤ new.known) × (from ≤ new.known) → (new.known ≡ old.known) ⊎ (new.known ≡ from) → ((win : Windows) → FollowsCalmBy win old.monitor new.known reported new.monitor) → TellsCalm old from reported new
-tells_until old new from reported first second after (inl same) follows = record {
+    → (old.known ≤ new.known) × (from ≤ new.known) → (new.known ≡ old.known) ⊎ (new.known ≡ from) → ((win : Windows) → FollowsCalmBy win old.monitor new.known reported new.monitor) → FindsCalm old.search new.known new.search → Stays old.search.found new.search.found → TellsCalm old from reported new
+tells_until old new from reported first second after (inl same) follows finds stays = record {
+  stays = stays;
   early = omega (arith, same, first);
   prompt = after.1;
   told = λ win low edges end ended w none reach.
       told_calm win old new low edges end ended reported w after.0 (let r = w.reach in omega (arith, same, r))
-      (w.is_low, subst (λ n. AreInTurn w.is_low n edges) (sym same) w.turn) (follows win);
+      (w.is_low, subst (λ n. AreInTurn w.is_low n edges) (sym same) w.turn) (follows win) finds;
 }
-tells_until old new from reported first second after (inr same) follows = record {
+tells_until old new from reported first second after (inr same) follows finds stays = record {
+  stays = stays;
   early = omega (arith, same, second);
   prompt = after.1;
   told = λ win low edges end ended w none reach.
-      told_calm win old new low edges end ended reported w after.0 (omega (arith, same, reach)) (none.0, subst (λ n. AreInTurn none.0 n edges) (sym same) none.1) (follows win);
+      told_calm win old new low edges end ended reported w after.0 (omega (arith, same, reach)) (none.0, subst (λ n. AreInTurn none.0 n edges) (sym same) none.1) (follows win) finds;
 }
 
 later_is : (a b : ℕ) → (max a b ≡ a) ⊎ (max a b ≡ b)
@@ -151,17 +174,20 @@ later_is a b = by (nat_lt a b) refl
     by false h = inl (max-eq_left (let x : b ≤ a = grind (arith, nat_tests) in x))
 
 pub tells_calm : (old new : Teller) (from : ℕ) (reported : Option Listed) → IsToldEarly old → from ≤ latest_instant + 1
-    → new.known ≡ max old.known from → ((win : Windows) → FollowsCalmBy win old.monitor new.known reported new.monitor) → TellsCalm old from reported new
-tells_calm old new from reported first second later follows =
+    → new.known ≡ max old.known from → ((win : Windows) → FollowsCalmBy win old.monitor new.known reported new.monitor) → FindsCalm old.search new.known new.search → Stays old.search.found new.search.found → TellsCalm old from reported new
+tells_calm old new from reported first second later follows finds stays =
     tells_until old new from reported first second
     (subst (λ n. (old.known ≤ n) × (from ≤ n)) (sym later) (le-max_left old.known from, le-max_right old.known from))
-    (subst (λ n. (n ≡ old.known) ⊎ (n ≡ from)) (sym later) (later_is old.known from)) follows
+    (subst (λ n. (n ≡ old.known) ⊎ (n ≡ from)) (sym later) (later_is old.known from)) follows finds stays
 
 -- ---- the end
 
 pub tells_end : (t : Teller) (end : ℕ) (reported : Option Listed) → ((win : Windows) → FollowsEndBy win t.monitor end reported) → TellsEnd t end reported
 tells_end t end reported follows win low ended w =
     sym (grown (ended_before_by win low t.known) (readings_by win low end) ended reported w.listed (follows win low t.known w.heard w.reach (λ u k s. w.level u k ∙ sym w.before ∙ sym w.heard.stood.level)))
+
+pub tells_idle : (t : Teller) (end idle : ℕ) → FindsEnd t.search end idle → TellsIdle t end idle
+tells_idle t end idle finds win low ended w = finds low t.known w.sought w.reach (λ u k s. w.level u k ∙ sym w.before)
 
 -- the readings that have ended are the first of those of the line
 pub told_front : ToldComeFirst
@@ -173,6 +199,7 @@ told_front win t low edges end ended w =
 
 pub tells_passed : (old mid new : Teller) (passed : Passed) (reported : PassedReadings) → TellsEdge old passed.first (option_map listed_as reported.first) mid → TellsEdge mid passed.second (option_map listed_as reported.second) new → TellsPassed old passed reported new
 tells_passed old mid new passed reported first second = record {
+  stays = later_stays old.search.found mid.search.found new.search.found first.stays second.stays;
   early = second.early;
   told = λ win low edges end ended w.
       let one = option_to_list (option_map listed_as reported.first) in

@@ -1,4 +1,5 @@
 pub mod Lines
 pub mod Passing
 pub mod Teller
+pub mod Shown
 pub mod Follow

@@ -11,6 +11,7 @@ use Rattle.capture_core.specs.declared.fault.Cause.TheVariants as cause
 use Rattle.capture_core.specs.declared.fault.Cause.{Cause}
 use Rattle.capture_csv.specs.Csv.{column_of, csv_form, named_read}
 use Rattle.capture_csv.specs.Csv.{first_reader as first_rows}
+use Rattle.capture_csv.specs.declared.column.Column.{Column}
 use Rattle.capture_csv.specs.declared.reader.CsvReader.{CsvReader}
 use Rattle.capture_pin.specs.Pin.{first_reader, pin_form}
 use Rattle.capture_monitor.specs.EdgeFile.{EdgeFile, edge_line_of, edges_read, end_read, is_in_turn, word_out_of_turn, word_past}
@@ -70,7 +71,7 @@ abbrev pub no_signal : ℕ → At Cause
 no_signal number = record { line = number; cause = cause.Signal; word = 1 }
 
 -- a reader of the rows, by the column of the signal
-abbrev pub rows_by : ℕ → Option ℕ → Result CsvReader (At Cause)
+abbrev pub rows_by : ℕ → Option Column → Result CsvReader (At Cause)
 rows_by number None = Err (no_signal number)
 rows_by number (Some column) = Ok (first_rows column)
 

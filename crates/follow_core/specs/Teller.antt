@@ -10,6 +10,7 @@ use Rattle.capture_core.specs.Edges.{AreInTurn, EndBy, level_at, line_of_edges}
 use Rattle.capture_monitor.specs.Monitor.{HeardBeforeBy}
 use Rattle.capture_monitor.specs.ReadBy.{ended_before_by, readings_by}
 use Rattle.line_reading.specs.Reports.{listed_as}
+use Rattle.capture_join.specs.Joined.{IsJoined, IsSought, Stays}
 use Rattle.capture_through.specs.Through.{passed_edges}
 use Rattle.capture_through.specs.declared.passed.Passed.{Passed}
 use Rattle.follow_core.specs.declared.teller.PassedReadings.{PassedReadings}
@@ -25,6 +26,7 @@ pub record IsTold (windows : Windows) (t : Teller) (low : Line) (edges : List Ed
   pub reach : t.known ≤ end + 1
   pub heard : HeardBeforeBy windows t.monitor low t.known
   pub listed : ended ≡ ended_before_by windows low t.known
+  pub sought : IsSought t.search low t.known
 
 -- they are the first of those of the line
 abbrev pub ToldComeFirst : Type 0
@@ -41,6 +43,7 @@ IsToldEarly t = t.known ≤ latest_instant + 1
 
 -- an edge is told, if there is one
 pub record TellsEdge (old : Teller) (edge : Option Edge) (reported : Option Listed) (new : Teller) : Type 0 where
+  pub stays : Stays old.search.found new.search.found
   pub early : IsToldEarly new
   pub told : (windows : Windows) (low : Line) (edges : List Edge) (end : ℕ) (ended : List Listed) → IsTold windows old low (option_to_list edge ++ edges) end ended
       → IsTold windows new low edges end (ended ++ option_to_list reported)
@@ -51,6 +54,7 @@ listed_pair p = option_to_list (option_map listed_as p.first) ++ option_to_list 
 
 -- edges are told
 pub record TellsPassed (old : Teller) (passed : Passed) (reported : PassedReadings) (new : Teller) : Type 0 where
+  pub stays : Stays old.search.found new.search.found
   pub early : IsToldEarly new
   pub told : (windows : Windows) (low : Line) (edges : List Edge) (end : ℕ) (ended : List Listed) → IsTold windows old low (passed_edges passed ++ edges) end ended
       → IsTold windows new low edges end (ended ++ listed_pair reported)
@@ -61,6 +65,7 @@ NoneBefore from edges = (is_low : Bool) × AreInTurn is_low from edges
 
 -- it is told that none comes before an instant
 pub record TellsCalm (old : Teller) (from : ℕ) (reported : Option Listed) (new : Teller) : Type 0 where
+  pub stays : Stays old.search.found new.search.found
   pub early : IsToldEarly new
   pub prompt : from ≤ new.known
   pub told : (windows : Windows) (low : Line) (edges : List Edge) (end : ℕ) (ended : List Listed) → IsTold windows old low edges end ended → NoneBefore from edges → from ≤ end + 1
@@ -69,3 +74,7 @@ pub record TellsCalm (old : Teller) (from : ℕ) (reported : Option Listed) (new
 -- it is told the end
 abbrev pub TellsEnd : Teller → ℕ → Option Listed → Type 0
 TellsEnd old end reported = (windows : Windows) (low : Line) (ended : List Listed) → IsTold windows old low [] end ended → readings_by windows low end ≡ ended ++ option_to_list reported
+
+-- the first idle instant of the line, or the end
+abbrev pub TellsIdle : Teller → ℕ → ℕ → Type 0
+TellsIdle t end idle = (windows : Windows) (low : Line) (ended : List Listed) → IsTold windows t low [] end ended → IsJoined low end idle

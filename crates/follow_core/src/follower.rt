@@ -1,12 +1,13 @@
 //! A capture that is followed line by line.
-ghost use Rattle.std.specs.Prelude.{◌≡◌, [], ℕ, List, IfErr, OnOk};
+ghost use Rattle.std.specs.Prelude.{◌≡◌, [], ℕ, List, IfErr, IfOk, OnOk};
 ghost use Rattle.line_reading.specs.Windows.{AreWindows};
-ghost use Rattle.record_core.specs.declared.cell.Form.{Form};
-ghost use Rattle.follow_core.specs.Follow.{HearsEnd, HearsLine, IsFollowed, IsPrompt, IsReady};
+ghost use Rattle.follow_core.specs.declared.view.ReadingView.{ReadingView};
+ghost use Rattle.follow_core.specs.Follow.{HearsEnd, HearsLine, IsFollowed, IsPrompt, IsReady, start_of};
 
 use crate::lines::LineForm;
 use crate::passing::PassingLines;
 use crate::reception::Reception;
+use crate::shown::Shown;
 use crate::teller::{PassedReadings, Teller};
 use capture_core::Cause;
 use capture_csv::csv_lines_go_on;
@@ -23,18 +24,28 @@ pub struct EndedReadings {
     pub last: Option<Reading>,
 }
 
+/// What has ended with the end, the first idle instant or the end, and what was held back.
+#[derive(Drop)]
+pub struct LastReadings {
+    pub ended: EndedReadings,
+    pub idle: u64,
+    pub shown: Shown,
+}
+
 /// Follows a capture line by line, and answers each reading as soon as it is over by what the lines say. It takes no memory.
-#[derive(Debug, Drop)]
+#[derive(Drop)]
 pub struct Follower {
     lines: PassingLines,
     teller: Teller,
+    /// What is held back of the readings that have ended.
+    pub(crate) shown: Shown,
 }
 
 impl Follower {
     /// A follower of a capture in this form, which is read so, and of which no line has come.
     pub fn new(form: LineForm, how: Reception) -> Self
         requires { AreWindows how.windows }
-        ensures followed { (signal : List ℕ) (written : Form) → IsFollowed form signal written how [] 1 result [] }
+        ensures followed { (signal : List ℕ) (view : ReadingView) → IsFollowed form signal view how [] 1 result [] }
         ensures prompt { IsPrompt result }
         ensures ready { IsReady result }
     {
@@ -45,6 +56,18 @@ impl Follower {
         Follower {
             lines: PassingLines::new(form, how.inverted, how.glitch),
             teller: Teller::new(how.windows),
+            shown: Shown::new(),
+        }
+    }
+
+    /// The instant from which readings are by themselves, where it is known: with all readings 0, else the first idle one.
+    pub fn start(&self, from_idle: bool) -> Option<u64>
+        ensures { result ≡ start_of from_idle self.now }
+    {
+        if from_idle {
+            self.teller.idle()
+        } else {
+            Some(0)
         }
     }
 
@@ -61,6 +84,7 @@ impl Follower {
     ) -> Result<EndedReadings, At<Cause>>
         requires ready { IsReady self.old }
         ensures hears { HearsLine signal.now number line.now self.old result self.new }
+        ensures shown { self.new.shown ≡ self.old.shown }
         ensures place { IfErr result (λ fault. fault.line ≡ number) }
         ensures prompt { OnOk result (IsPrompt self.new) }
         ensures ready { OnOk result (IsReady self.new) }
@@ -83,9 +107,10 @@ impl Follower {
     /// # Errors
     ///
     /// The end is missing.
-    pub fn end(self, number: u64) -> Result<EndedReadings, At<Cause>>
+    pub fn end(self, number: u64) -> Result<LastReadings, At<Cause>>
         requires ready { IsReady self }
         ensures hears { HearsEnd number self result }
+        ensures shown { IfOk result (λ last. last.shown ≡ self.shown) }
         ensures place { IfErr result (λ fault. fault.line ≡ number) }
     {
         let mut teller = self.teller;
@@ -94,11 +119,17 @@ impl Follower {
             Ok(last) => {
                 let by_edge = teller.pass(last.edges.by_edge);
                 let by_calm = teller.pass(last.edges.by_calm);
-                let last = teller.end(last.end);
-                Ok(EndedReadings {
+                let idle = teller.idle_by_end(last.end);
+                let running = teller.end(last.end);
+                let ended = EndedReadings {
                     by_edge,
                     by_calm,
-                    last,
+                    last: running,
+                };
+                Ok(LastReadings {
+                    ended,
+                    idle,
+                    shown: self.shown,
                 })
             }
         }

@@ -1,75 +1,24 @@
 //! A capture that is followed over a reader and a sink.
-ghost use Rattle.std.specs.Prelude.{◌≡◌, [], Err, OnOk, map};
+ghost use Rattle.std.specs.Prelude.{◌≡◌, [], Err, List, OnOk, Option, Some, ℕ};
 ghost use Rattle.std.specs.Io.KnownBytes.{Keeps};
-ghost use Rattle.std.specs.Option.{option_map, option_to_list};
 ghost use Rattle.text_core.specs.Buffered.{pending};
-ghost use Rattle.line_reading.specs.Reports.{listed_as};
 ghost use Rattle.line_reading.specs.Windows.{AreWindows};
-ghost use Rattle.audit_notes.specs.Lines.{AuditLine};
-ghost use Rattle.follow_core.specs.Teller.{listed_pair};
-ghost use Rattle.follow_core.specs.Follow.{Ends, Follows, HoldsNothing, Hears, IsOfWriting, IsReady, Puts, heard_text, line_error, listed_in};
+ghost use Rattle.follow_core.specs.Follow.{Ends, Follows, HoldsNothing, Hears, IsOfWriting, IsReady, line_error};
+ghost use Rattle.follow_core.specs.Shown.{Puts, start_by};
 
 use crate::error::FollowError;
-use crate::follower::{EndedReadings, Follower};
+use crate::follower::Follower;
 use crate::lines::LineForm;
 use crate::reception::Reception;
-use crate::teller::PassedReadings;
+use crate::shown::{Starts, write_ended, write_last};
+use crate::view::ReadingView;
 use arrayvec::ArrayVec;
-use audit_notes::{LineHearer, LineWriter};
-use line_frames::Reading;
 use live_incoming::{IncomingFault, Lines};
-use record_core::Form;
 use std::io::Read;
-use text_core::{Buffered, Counted, Sink, WriteFault};
+use text_core::{Buffered, Sink, WriteFault};
 
 /// The most lines of a capture.
 const MOST_LINES: u64 = 18_446_744_073_709_551_615;
-
-// Hears a reading, if there is one.
-fn hear_one<H: LineHearer>(reading: &Option<Reading>, out: &mut H)
-    ensures { H.hears out.old (map AuditLine.Reading (option_to_list (option_map listed_as reading.now))) out.new }
-{
-    match reading {
-        None => {}
-        Some(reading) => out.reading(reading),
-    }
-}
-
-// Hears what has ended by the edges of a step.
-fn hear_pair<H: LineHearer>(pair: &PassedReadings, out: &mut H)
-    ensures { H.hears out.old (map AuditLine.Reading (listed_pair pair.now)) out.new }
-{
-    hear_one(&pair.first, out);
-    hear_one(&pair.second, out);
-}
-
-// Hears what has ended.
-fn hear_ended<H: LineHearer>(heard: &EndedReadings, out: &mut H)
-    ensures { H.hears out.old (map AuditLine.Reading (listed_in heard.now)) out.new }
-{
-    hear_pair(&heard.by_edge, out);
-    hear_pair(&heard.by_calm, out);
-    hear_one(&heard.last, out);
-}
-
-// Writes what has ended, up to a fault: its lines, or their objects.
-fn write_both<S: Sink>(written: Form, heard: &EndedReadings, out: &mut S) -> Result<(), WriteFault>
-    ensures { Puts (S.contents out.old) (S.contents out.new) (heard_text written heard.now) result }
-{
-    let mut lines = LineWriter {
-        form: written,
-        out: Counted::new(out),
-    };
-    hear_ended(heard, &mut lines);
-    let text = lines.out;
-    let done = text.written();
-    // No effect at run time. The proof reads what `out` holds from the sink that comes back.
-    let _below = text.into_sink();
-    match done {
-        Ok(_) => Ok(()),
-        Err(fault) => Err(fault),
-    }
-}
 
 // How many bytes were handed on, where a `put` took none.
 fn stopped<S: Sink>(fault: WriteFault, out: &mut Buffered<S>) -> FollowError
@@ -82,17 +31,13 @@ fn stopped<S: Sink>(fault: WriteFault, out: &mut Buffered<S>) -> FollowError
     }
 }
 
-// Writes what has ended, and hands it on.
-fn write_heard<S: Sink>(
-    written: Form,
-    heard: &EndedReadings,
-    out: &mut Buffered<S>,
-) -> Result<(), FollowError>
-    ensures put { Puts (⟦<Buffered<S> as Sink>⟧.contents out.old) (⟦<Buffered<S> as Sink>⟧.contents out.new) (heard_text written heard.now) result }
+// Hands on what was written, up to a fault.
+fn hand_on<S: Sink>(done: Result<(), WriteFault>, out: &mut Buffered<S>) -> Result<(), FollowError>
+    ensures put { (before : Option (List ℕ)) (text : List ℕ) → Puts before (⟦<Buffered<S> as Sink>⟧.contents out.old) text done → Puts before (⟦<Buffered<S> as Sink>⟧.contents out.new) text result }
     ensures handed { OnOk result (pending out.new ≡ []) }
     ensures writing { IsOfWriting result }
 {
-    match write_both(written, heard, out) {
+    match done {
         Err(fault) => Err(stopped(fault, out)),
         Ok(()) => match out.flush() {
             Ok(()) => Ok(()),
@@ -114,60 +59,80 @@ fn line_error(fault: IncomingFault) -> FollowError
 // Takes a line, writes what has ended by it, and hands that on.
 fn hear<S: Sink>(
     follower: &mut Follower,
-    written: Form,
+    view: ReadingView,
     signal: &[u8],
     number: u64,
     line: &[u8],
     out: &mut Buffered<S>,
 ) -> Result<(), FollowError>
     requires ready { IsReady follower.old }
-    ensures hears { Hears written signal.now number line.now follower.old follower.new (⟦<Buffered<S> as Sink>⟧.contents out.old) (⟦<Buffered<S> as Sink>⟧.contents out.new) result }
+    ensures hears { Hears view signal.now number line.now follower.old follower.new (⟦<Buffered<S> as Sink>⟧.contents out.old) (⟦<Buffered<S> as Sink>⟧.contents out.new) result }
     ensures ready { OnOk result (IsReady follower.new) }
     ensures handed { OnOk result (pending out.new ≡ []) }
     ensures kept { HoldsNothing result (pending out.old) (pending out.new) }
 {
+    let before = follower.start(view.from_idle);
     match follower.line(signal, number, line) {
         Err(fault) => Err(FollowError::Capture(fault)),
-        Ok(heard) => write_heard(written, &heard, out),
+        Ok(heard) => {
+            let now = follower.start(view.from_idle);
+            let starts = Starts { before, now };
+            let done = write_ended(view, starts, &mut follower.shown, &heard, out);
+            hand_on(done, out)
+        }
     }
+}
+
+// From which instant readings are by themselves, where the end is known.
+fn start_at_end(from_idle: bool, idle: u64) -> Option<u64>
+    ensures { result ≡ start_by from_idle (Some idle) }
+{
+    if from_idle { Some(idle) } else { Some(0) }
 }
 
 // No line is left: writes what is left of the readings.
 fn finish<S: Sink>(
     follower: Follower,
-    written: Form,
+    view: ReadingView,
     number: u64,
     out: &mut Buffered<S>,
 ) -> Result<(), FollowError>
     requires ready { IsReady follower }
-    ensures ends { Ends written number follower (⟦<Buffered<S> as Sink>⟧.contents out.old) (⟦<Buffered<S> as Sink>⟧.contents out.new) result }
+    ensures ends { Ends view number follower (⟦<Buffered<S> as Sink>⟧.contents out.old) (⟦<Buffered<S> as Sink>⟧.contents out.new) result }
     ensures handed { OnOk result (pending out.new ≡ []) }
     ensures kept { HoldsNothing result (pending out.old) (pending out.new) }
 {
+    let before = follower.start(view.from_idle);
     match follower.end(number) {
         Err(fault) => Err(FollowError::Capture(fault)),
-        Ok(heard) => write_heard(written, &heard, out),
+        Ok(last) => {
+            let now = start_at_end(view.from_idle, last.idle);
+            let starts = Starts { before, now };
+            let done = write_last(view, starts, last.shown, &last.ended, out);
+            hand_on(done, out)
+        }
     }
 }
 
-/// Follows a capture: reads it line by line, and writes each reading of the wire of a name, or of the first where that is empty, as
-/// soon as it is over by what has come, as it is read: its line, or its object. What was written is handed on before the
-/// next line is read. At the end it has written the readings of the whole.
+/// Follows a capture: reads it line by line, and writes what is shown of the readings of the wire of a name, or of the first where that
+/// is empty, as soon as they are over by what has come: lines, or their objects. What was written is handed on before the next line is
+/// read. At the end it has written what is shown of the whole. Where one line stands for the readings before the line of the bus is
+/// first idle, nothing is written until then; bad starts one after another that are one line are held back until another reading ends.
 ///
 /// # Errors
 ///
 /// The first line at fault, counted from 1; a line has more than 4,096 bytes; a read or a write failed. What is over by the lines
-/// before is written, each reading of it, and stays: the front of the text of each capture that begins with them.
+/// before is shown and stays: the front of what is shown of each capture that begins with them.
 pub fn follow<R: Read, S: Sink>(
     form: LineForm,
     signal: &[u8],
-    written: Form,
+    view: ReadingView,
     how: Reception,
     input: &mut R,
     out: &mut Buffered<S>,
 ) -> Result<(), FollowError>
     requires { AreWindows how.windows }
-    ensures follows { Follows form signal.now written how (R.remaining input.old) (⟦<Buffered<S> as Sink>⟧.contents out.old) (⟦<Buffered<S> as Sink>⟧.contents out.new) result }
+    ensures follows { Follows form signal.now view how (R.remaining input.old) (⟦<Buffered<S> as Sink>⟧.contents out.old) (⟦<Buffered<S> as Sink>⟧.contents out.new) result }
     ensures handed { OnOk result (pending out.new ≡ []) }
     ensures kept { HoldsNothing result (pending out.old) (pending out.new) }
 {
@@ -179,16 +144,9 @@ pub fn follow<R: Read, S: Sink>(
             Err(fault) => return Err(line_error(fault)),
             Ok(more) => {
                 if !more {
-                    return finish(follower, written, read + 1, out);
+                    return finish(follower, view, read + 1, out);
                 }
-                match hear(
-                    &mut follower,
-                    written,
-                    signal,
-                    read + 1,
-                    line.as_slice(),
-                    out,
-                ) {
+                match hear(&mut follower, view, signal, read + 1, line.as_slice(), out) {
                     Ok(()) => {}
                     Err(error) => return Err(error),
                 }

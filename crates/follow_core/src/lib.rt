@@ -9,10 +9,12 @@ mod laws;
 mod lines;
 mod passing;
 mod reception;
+mod shown;
 mod teller;
+mod view;
 
 pub use error::FollowError;
-pub use follower::{EndedReadings, Follower};
+pub use follower::{EndedReadings, Follower, LastReadings};
 pub use following::follow;
 pub use laws::{
     edges_come_before_what_is_left, edges_of_a_line_are_told, lines_leave_a_capture_in_turn,
@@ -21,4 +23,6 @@ pub use laws::{
 pub use lines::{CaptureLines, Last, LineForm};
 pub use passing::{LastEdges, PassedEdges, PassingLines};
 pub use reception::Reception;
+pub use shown::{Shown, Starts};
 pub use teller::{PassedReadings, Teller};
+pub use view::ReadingView;

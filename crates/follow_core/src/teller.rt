@@ -3,6 +3,7 @@ ghost use Rattle.std.specs.Prelude.{◌≡◌, ◌≤◌, ◌+◌, IfSome, optio
 ghost use Rattle.line_wave.specs.Bounds.{latest_instant};
 ghost use Rattle.line_reading.specs.Reports.{listed_as};
 
+use capture_join::IdleSearch;
 use capture_monitor::Monitor;
 use capture_through::Passed;
 use line_frames::Reading;
@@ -15,6 +16,8 @@ pub struct Teller {
     monitor: Monitor,
     /// The instant before which the line of the bus is known.
     known: u64,
+    /// Looks for the first instant at which the line is idle.
+    search: IdleSearch,
 }
 
 /// What has ended by the edges of a step: two readings at most.
@@ -27,7 +30,7 @@ pub struct PassedReadings {
 impl Teller {
     ghost use Rattle.line_reading.specs.Windows.{AreWindows};
     ghost use Rattle.capture_through.specs.Through.{PassedEarly};
-    ghost use Rattle.follow_core.specs.Teller.{IsToldEarly, IsUntold, TellsCalm, TellsEdge, TellsEnd, TellsPassed};
+    ghost use Rattle.follow_core.specs.Teller.{IsToldEarly, IsUntold, TellsCalm, TellsEdge, TellsEnd, TellsIdle, TellsPassed};
 
     /// A monitor by these windows, which was told nothing.
     pub fn new(windows: Windows) -> Self
@@ -38,6 +41,7 @@ impl Teller {
         Teller {
             monitor: Monitor::with_windows(windows),
             known: 0,
+            search: IdleSearch::new(),
         }
     }
 
@@ -51,6 +55,7 @@ impl Teller {
             None => None,
             Some(edge) => {
                 self.known = edge.at + 1;
+                self.search.edge(edge);
                 self.monitor.edge(edge)
             }
         }
@@ -75,7 +80,23 @@ impl Teller {
     {
         let until = self.known.max(from);
         self.known = until;
+        self.search.calm(until);
         self.monitor.calm(until)
+    }
+
+    /// The first instant at which the line is idle, where it is known.
+    pub fn idle(&self) -> Option<u64>
+        ensures { result ≡ self.now.search.found }
+    {
+        self.search.found()
+    }
+
+    /// The same with the end, which stands for it where there is none before.
+    pub fn idle_by_end(&self, end: u64) -> u64
+        ensures { TellsIdle self.now end result }
+    {
+        let search = self.search;
+        search.end(end)
     }
 
     /// Tells it the end, and returns the last reading.

@@ -1,3 +1,4 @@
+pub mod Heads
 pub mod Inputs
 pub mod Figures
 pub mod Established

@@ -3,6 +3,8 @@
 use Rattle.std.specs.Prelude.{ℕ, ◌==◌, ◌&&◌, ◌||◌, nat_lt, Bool, if◌then◌else◌, List, [], ◌∷◌, ◌++◌, drop, slice_index, codes}
 use Rattle.edid_base.specs.Bytes.{are_zeros}
 use Rattle.meaning_words.specs.Notes.{text_between}
+use Rattle.meaning_base.specs.Heads.{head_rows}
+use Rattle.meaning_fields.specs.Fields.{field_words}
 
 -- ---- descriptors
 
@@ -47,8 +49,8 @@ raw_meanings bytes = raw_text bytes ∷ []
 abbrev pub cta_text : ℕ → List ℕ
 cta_text revision = if revision == 3 then codes "CTA-861, data blocks or timings that overrun" else text_between (codes "CTA-861 of revision ") revision []
 
-abbrev pub ext_text : List ℕ → List ℕ
-ext_text bytes =
+abbrev pub ext_name : List ℕ → List ℕ
+ext_name bytes =
     if slice_index bytes 0 == 0x02 then cta_text (slice_index bytes 1)
     else if slice_index bytes 0 == 0x10 then codes "video timing block"
     else if slice_index bytes 0 == 0x40 then codes "display information"
@@ -58,6 +60,10 @@ ext_text bytes =
     else if slice_index bytes 0 == 0xf0 then codes "block map"
     else if slice_index bytes 0 == 0xff then codes "of the maker's own"
     else codes "unknown extension"
+
+-- its kind, and what its first bytes report
+abbrev pub ext_text : List ℕ → List ℕ
+ext_text bytes = ext_name bytes ++ field_words (head_rows bytes) bytes
 
 unfoldable pub ext_meanings : List ℕ → List (List ℕ)
 ext_meanings bytes = ext_text bytes ∷ []

@@ -7,6 +7,7 @@ mod descriptors;
 mod established;
 mod established_iii;
 mod figures;
+mod heads;
 mod inputs;
 mod ranges;
 mod raws;

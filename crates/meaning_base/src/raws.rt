@@ -2,10 +2,12 @@
 ghost use Rattle.std.specs.Prelude.{◌≡◌, ◌≤◌, ◌+◌, ◌++◌, length, flat_map};
 ghost use Rattle.arrayvec.specs.ArrayVec.{array_vec_len};
 ghost use Rattle.meaning_words.specs.Notes.{own_line};
-ghost use Rattle.meaning_base.specs.Raws.{tag_name, has_characters, characters, tagged_text, raw_text, raw_meanings, cta_text, ext_text, ext_meanings};
+ghost use Rattle.meaning_base.specs.Raws.{tag_name, has_characters, characters, tagged_text, raw_text, raw_meanings, cta_text, ext_name, ext_text, ext_meanings};
 
+use crate::heads::head_fields;
 use arrayvec::ArrayVec;
 use edid_base::{append, are_zeros};
+use meaning_fields::append_fields;
 use meaning_words::{NOTE, Note, PAGE, Page, after, append_between, append_line, byte_at};
 
 /// The only revision of a CTA block whose parts are told apart.
@@ -100,8 +102,8 @@ fn append_cta(note: &mut Note, revision: u8)
     }
 }
 
-fn ext_note(bytes: &[u8]) -> Note
-    ensures value { result.items ≡ ext_text bytes.now }
+fn name_note(bytes: &[u8]) -> Note
+    ensures value { result.items ≡ ext_name bytes.now }
     ensures len { array_vec_len result ≤ 60 }
 {
     let mut note = ArrayVec::new();
@@ -119,13 +121,22 @@ fn ext_note(bytes: &[u8]) -> Note
     note
 }
 
-/// Appends what kind of extension it is that is kept as it is, by its first byte, and for a CTA block why (E-EDID Release A,
-/// section 2.2.1).
+fn ext_note(bytes: &[u8]) -> Note
+    ensures value { result.items ≡ ext_text bytes.now }
+    ensures len { array_vec_len result ≤ 540 }
+{
+    let mut note = name_note(bytes);
+    append_fields(&mut note, head_fields(bytes), bytes);
+    note
+}
+
+/// Appends what kind of extension it is that is kept as it is, by its first byte, for a CTA block why, and what its first bytes
+/// report (E-EDID Release A, section 2.2.1).
 #[tactic(auto, unfolding(crate::specs::Raws::ext_meanings))]
 pub fn append_ext(page: &mut Page, bytes: &[u8])
-    requires { array_vec_len page.old + 70 ≤ PAGE }
+    requires { array_vec_len page.old + 550 ≤ PAGE }
     ensures items { page.new.items ≡ page.old.items ++ flat_map own_line (ext_meanings bytes.now) }
-    ensures len { array_vec_len page.new ≤ array_vec_len page.old + 70 }
+    ensures len { array_vec_len page.new ≤ array_vec_len page.old + 550 }
 {
     append_line(page, ext_note(bytes).as_slice());
 }

@@ -336,7 +336,9 @@ fn append_spare(note: &mut Note, first: u8, second: u8, third: u8)
     append_spare_bits(note, spare_first(first, third), second);
 }
 
-fn audio_note(first: u8, second: u8, third: u8) -> Note
+/// The words of a format of three bytes: its name, its channels, its sampling rates, and the sizes of its samples or its greatest bit
+/// rate.
+pub fn audio_note(first: u8, second: u8, third: u8) -> Note
     ensures value { result.items ≡ audio_text first second third }
     ensures len { array_vec_len result ≤ 533 }
 {

@@ -7,7 +7,7 @@ mod hdmi;
 mod speakers;
 mod stereo;
 
-pub use audio::append_audio;
+pub use audio::{append_audio, audio_note};
 pub use flags::append_flags;
 pub use hdmi::append_hdmi;
-pub use speakers::append_speakers;
+pub use speakers::{append_speakers, speaker_note};

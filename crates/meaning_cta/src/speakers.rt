@@ -52,7 +52,8 @@ fn append_speaker_bits(note: &mut Note, bits: u32)
     append_bits(note, SPEAKERS, bits);
 }
 
-fn speaker_note(payload: &[u8]) -> Note
+/// The words of speakers, each with a comma and a space before it.
+pub fn speaker_note(payload: &[u8]) -> Note
     requires { length payload.now ≤ 128 }
     ensures value { result.items ≡ speaker_words payload.now }
     ensures len { array_vec_len result ≤ 1230 }

@@ -1,2 +1,5 @@
 pub mod Timings
+pub mod Forms
+pub mod One
+pub mod Two
 pub mod Sections

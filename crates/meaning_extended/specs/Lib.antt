@@ -1,3 +1,4 @@
+pub mod Titles
 pub mod Colours
 pub mod Videos
 pub mod Makers

@@ -24,9 +24,6 @@ tag_name tag =
     else if tag == 0x13 then codes ", room configuration"
     else if tag == 0x14 then codes ", speaker locations"
     else if tag == 0x20 then codes ", InfoFrames"
-    else if tag == 0x22 then codes ", DisplayID type VII timing"
-    else if tag == 0x23 then codes ", DisplayID type VIII timings"
-    else if tag == 0x2a then codes ", DisplayID type X timings"
     else []
 
 -- the name, and the bytes in hex

@@ -10,6 +10,7 @@ mod forum;
 mod lights;
 mod makers;
 mod sync;
+mod titles;
 mod vendors;
 mod videos;
 

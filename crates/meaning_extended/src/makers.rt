@@ -56,9 +56,6 @@ pub fn tag_name(tag: u8) -> &'static str
         0x13 => ", room configuration",
         0x14 => ", speaker locations",
         0x20 => ", InfoFrames",
-        0x22 => ", DisplayID type VII timing",
-        0x23 => ", DisplayID type VIII timings",
-        0x2a => ", DisplayID type X timings",
         _ => "",
     }
 }

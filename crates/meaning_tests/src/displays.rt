@@ -180,6 +180,24 @@ ext 70 = DisplayID
 ext f0 = block map
 ext ff = of the maker's own
 ext 00 = unknown extension
+ext 1001020103 = video timing block, version 1, 2 detailed timings, 1 CVT codes, 3 standard timings
+ext 400100 = display information, version 1, analog
+ext 400101 = display information, version 1, DVI
+ext 400103 = display information, version 1, DVI of two links for resolution
+ext 400104 = display information, version 1, DVI of two links for colour
+ext 400105 = display information, version 1, DVI for consumer electronics
+ext 400106 = display information, version 1, Plug & Display
+ext 400107 = display information, version 1, DFP
+ext 400108 = display information, version 1, OpenLDI of one link
+ext 400109 = display information, version 1, OpenLDI of two links
+ext 40010a = display information, version 1, OpenLDI for consumer electronics
+ext 40010b = display information, version 1, interface 11 (reserved)
+ext 40010200000000000019a50000000000001b1b82 = display information, version 1, DVI of one link, clock from 25 MHz, clock up to 165 MHz, pitch 27 hundredths of 1 mm by 27 hundredths of 1 mm, fixed pixel format, DDC/CI
+ext 5001004001 = localized strings, version 1.0, Unicode 4.0.1
+ext f00270 = block map, block 2 of tag 02, block 3 of tag 70
+ext f0700240 = block map, block 2 of tag 70, block 3 of tag 02, block 4 of tag 40
+ext 020104f1 = CTA-861 of revision 1, timings from byte 4
+ext 02020ef1 = CTA-861 of revision 2, timings from byte 14, underscans, basic audio, YCbCr 4:4:4, YCbCr 4:2:2, 1 native timings
 ";
 
 /// Numbers of lines, and what they mean.

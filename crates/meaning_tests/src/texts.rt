@@ -57,6 +57,7 @@ speakers 010000
   FL FR
 hdmi 0.0.0.0 -
 extended 004f
+  video capability
   RGB range selectable, IT formats over- or underscanned, CE formats over- or underscanned
 tail -
 ";

@@ -12,8 +12,8 @@ use Rattle.live_incoming.specs.Incoming.{IsWhole, text_of_lines}
 use Rattle.live_incoming.proofs.Coming.{lines_again}
 use Rattle.live_dialogue.specs.Dialogue.{IsDone, first_reported}
 use Rattle.record_core.specs.declared.cell.Form.{Form}
-use Rattle.cli_words.specs.Form.{form_by}
-use Rattle.cli_words.specs.declared.choice.CommandChoice.TheVariants.{Live}
+use Rattle.cli_choice.specs.Form.{form_by}
+use Rattle.cli_choice.specs.declared.choice.CommandChoice.TheVariants.{Live}
 use Rattle.program_calls.specs.Live.{IsLiveDone, Lives}
 use Rattle.program_calls.specs.Done.{IsServed}
 

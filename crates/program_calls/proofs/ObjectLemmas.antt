@@ -9,8 +9,8 @@ use Rattle.room_run.specs.declared.run.Totals.{Totals}
 use Rattle.program_calls.specs.Done.{AreRunDone, Writes}
 use Rattle.program_input.specs.Parted.{IsRunInput}
 use Rattle.program_calls.proofs.ShownLemmas.{on_ok}
-use Rattle.cli_words.specs.declared.choice.CommandChoice.TheVariants.{Json}
-use Rattle.cli_words.specs.declared.choice.Objects.TheVariants as of
+use Rattle.cli_choice.specs.declared.choice.CommandChoice.TheVariants.{Json}
+use Rattle.cli_choice.specs.declared.choice.Objects.TheVariants as of
 
 -- ---- of a run, while it runs
 

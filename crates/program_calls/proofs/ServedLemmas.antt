@@ -1,10 +1,14 @@
 -- What the words of a command line ask for is done.
 use Rattle.std.proofs.Common.{◌≡◌, ℕ, List, Option, Some, None, subst, sym}
 use Rattle.program_captures.specs.Following.{FollowsTo}
-use Rattle.program_calls.specs.Done.{AreServedAs, IsHelp, IsServed, IsServedOf}
-use Rattle.cli_words.specs.declared.choice.Asked.{Asked}
-use Rattle.cli_words.specs.declared.choice.CommandChoice.TheVariants.{Follow}
-use Rattle.cli_words.specs.declared.choice.FollowChoice.{FollowChoice}
+use Rattle.program_captures.specs.Compared.{WritesAlike}
+use Rattle.program_input.specs.Parted.{IsCaptureInput}
+use Rattle.program_input.specs.Read.{IsAllOf}
+use Rattle.program_calls.specs.Done.{AreServedAs, IsCompared, IsHelp, IsServed, IsServedOf, Writes}
+use Rattle.cli_choice.specs.declared.choice.Asked.{Asked}
+use Rattle.cli_choice.specs.declared.choice.CommandChoice.TheVariants.{CaptureDiff, Follow}
+use Rattle.cli_choice.specs.declared.choice.CapturePair.{CapturePair}
+use Rattle.cli_choice.specs.declared.choice.FollowChoice.{FollowChoice}
 
 -- where a choice was made
 pub chosen : (o : Option Asked) (asked : Asked) (name : List ℕ) (operands : List (List ℕ)) (stdin : Option (List ℕ)) (held : List ℕ → Option (List ℕ)) (old new : Option (List ℕ)) → o ≡ Some asked
@@ -22,4 +26,21 @@ followed choice known old new name f = record {
   input = f.input;
   all = f.all;
   written = (f.text, f.reported, f.put);
+}
+
+-- two captures of one input
+pub compared_in : (pair : CapturePair) (name input first second : List ℕ) (old new : Option (List ℕ)) → IsCaptureInput input first second → WritesAlike pair name first second old new
+    → Writes (CaptureDiff pair) name input old new
+compared_in pair name input first second old new parts (text, alike, put) = (text, (first, second, parts, alike), put)
+
+-- two captures of files, which were read whole
+pub compared_of : (pair : CapturePair) (name asked first one second other : List ℕ) (known_first known_second old new : Option (List ℕ))
+    → asked ≡ name → one ≡ first → other ≡ second → IsAllOf known_first first → IsAllOf known_second second → WritesAlike pair asked one other old new
+    → IsCompared pair name known_first known_second old new
+compared_of pair name asked first one second other known_first known_second old new is_name is_first is_second all_first all_second w = record {
+  first = first;
+  second = second;
+  all_first = all_first;
+  all_second = all_second;
+  written = subst (λ (n : List ℕ). WritesAlike pair n first second old new) is_name (subst (λ (b : List ℕ). WritesAlike pair asked first b old new) is_second (subst (λ (b : List ℕ). WritesAlike pair asked b other old new) is_first w));
 }

@@ -13,7 +13,7 @@ use Rattle.expect_sweep.specs.Stretches.{stretches_text}
 use Rattle.expect_sweep.specs.Sweep.{IsSwept}
 use Rattle.program_calls.proofs.LiveLemmas.{Appends-trans}
 use Rattle.program_calls.specs.Tests.{AreRemarksOf, WritesPassed, WritesTest}
-use Rattle.cli_words.specs.declared.choice.TestView.TheVariants as views
+use Rattle.cli_choice.specs.declared.choice.TestView.TheVariants as views
 
 pub traced : (form : Form) (topology script remarks put : List ℕ) (old middle new : Option (List ℕ)) (tally : Tally) → IsChecked form topology script old middle tally
     → AreRemarksOf form topology script remarks → put ≡ remarks → Appends middle new put → tally.failed ≡ 0 → WritesTest form views.Traced topology script old new

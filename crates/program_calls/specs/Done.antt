@@ -19,27 +19,33 @@ use Rattle.room_steps.specs.StepRun.{AreStepsOf}
 use Rattle.message_text.specs.FrameLines.{AreTextsOf, hex_line as frame_line, lines_of_frames}
 use Rattle.line_wave.specs.declared.Stretch.{Stretch}
 use Rattle.text_core.specs.Lines.{lines_of}
-use Rattle.cli_words.specs.MonFlags.{signal_in}
+use Rattle.cli_words.specs.Named.{named_in}
 use Rattle.cli_words.specs.Operands.{asked_on, is_report, operands_in, words_in}
-use Rattle.cli_words.specs.declared.choice.Asked.{Asked}
-use Rattle.cli_words.specs.declared.choice.CommandChoice.{CommandChoice}
-use Rattle.cli_words.specs.declared.choice.CommandChoice.TheVariants.{Run, Check, CheckCapture, Step, Live, Asm, Dis, Lay, Mon, Follow, CapturedLine, Json, Edid}
-use Rattle.cli_words.specs.declared.choice.Objects.{Objects}
-use Rattle.cli_words.specs.declared.choice.Objects.TheVariants as of
-use Rattle.cli_words.specs.declared.choice.Listing.{Listing}
-use Rattle.cli_words.specs.declared.choice.Listing.TheVariants.{Trace, Line, Drives, Named}
-use Rattle.cli_words.specs.declared.choice.TestView.{TestView}
-use Rattle.cli_words.specs.declared.choice.TestView.TheVariants.{Report, Traced}
+use Rattle.cli_choice.specs.declared.choice.Asked.{Asked}
+use Rattle.cli_choice.specs.declared.choice.CommandChoice.{CommandChoice}
+use Rattle.cli_choice.specs.declared.choice.CommandChoice.TheVariants.{Run, Check, CheckCapture, Step, Live, Asm, Dis, Lay, Mon, Summary, CaptureDiff, Follow, CapturedLine, Json, EdidDiff, InfoFrame, Eld, Edid}
+use Rattle.cli_choice.specs.declared.choice.Objects.{Objects}
+use Rattle.cli_choice.specs.declared.choice.Objects.TheVariants as of
+use Rattle.cli_choice.specs.declared.choice.Listing.{Listing}
+use Rattle.cli_choice.specs.declared.choice.Listing.TheVariants.{Trace, Line, Drives, Named}
+use Rattle.cli_choice.specs.declared.choice.TestView.{TestView}
+use Rattle.cli_choice.specs.declared.choice.TestView.TheVariants.{Report, Traced}
 use Rattle.program_captures.specs.Captures.{IsShown, form_of, name_of, report_of}
 use Rattle.program_captures.specs.Edges.{AreEdges}
+use Rattle.program_captures.specs.Compared.{AreAlike, WritesAlike}
 use Rattle.program_captures.specs.Following.{IsReported}
+use Rattle.program_captures.specs.Summaries.{IsSummedUp}
+use Rattle.cli_choice.specs.declared.choice.CapturePair.{CapturePair}
+use Rattle.program_edids.specs.Compared.{IsAlike}
 use Rattle.program_edids.specs.Edids.{IsMade}
+use Rattle.program_edids.specs.Elds.{IsEldRead}
+use Rattle.program_edids.specs.Framed.{IsOffered}
 use Rattle.program_edids.specs.Told.{told}
 use Rattle.program_calls.specs.CaptureTests.{IsCaptureTest}
-use Rattle.cli_words.specs.Form.{form_by}
+use Rattle.cli_choice.specs.Form.{form_by}
 use Rattle.program_calls.specs.Live.{IsLiveDone}
 use Rattle.program_calls.specs.Reports.{WritesReports, report_kind}
-use Rattle.program_input.specs.Parted.{IsRunInput, IsStepsInput}
+use Rattle.program_input.specs.Parted.{IsCaptureInput, IsRunInput, IsStepsInput}
 use Rattle.program_input.specs.Read.{IsAllOf}
 use Rattle.program_input.specs.Source.{known_bytes, known_joined}
 use Rattle.program_calls.specs.Tests.{IsTestOf}
@@ -117,8 +123,12 @@ AreObjectsOf (of.Room strict) name input text = (lines : List ℕ) × AreLines s
 AreObjectsOf (of.Test traced) name input text = IsTestDone forms.Json (report_view traced) input text
 AreObjectsOf (of.CaptureTest form glitch) name input text = IsCaptureTest forms.Json form name glitch input text
 
--- The text that a choice makes of an input; of a capture, of the wire of a name. A strict run is one whose events were all
--- taken.
+-- two captures with the line `capture` between them are alike, and a text says so
+abbrev pub AreAlikeIn : CapturePair → List ℕ → List ℕ → List ℕ → Type 0
+AreAlikeIn pair name input text = (first : List ℕ) × (second : List ℕ) × IsCaptureInput input first second × AreAlike pair name first second text
+
+-- The text that a choice makes of an input; of a capture, of the wire of a name, and of an EDID, of the InfoFrame that the name spells.
+-- A strict run is one whose events were all taken.
 abbrev pub IsDone : CommandChoice → List ℕ → List ℕ → List ℕ → Type 0
 IsDone (Run listing strict) name input text = (totals : Totals) × IsListed listing input text totals × (strict ≡ true → totals.refused ≡ 0)
 IsDone (Check view) name input text = IsTestDone forms.Text view input text
@@ -129,10 +139,15 @@ IsDone Asm name input text = (frames : List (List ℕ)) × AreTextsOf (lines_of_
 IsDone (Dis meaning form) name input text = (first_fault 1 (lines_of input) ≡ None) × (text ≡ flat_map (dis_text form meaning) (lines_of input))
 IsDone (Lay form) name input text = (pulls : List Stretch) × AreLinesRead (lines_of input) 1 no_notes (Ok pulls) × (text ≡ flat_map (pull_record form) pulls)
 IsDone (Mon mon) name input text =
-    IsShown mon.written mon.folded (form_of mon.form input) name mon.inverted mon.glitch mon.margin (report_of mon.report (form_of mon.form input)) input text
+    IsShown mon.written mon.folded (form_of mon.form input) name mon.inverted mon.scale mon.glitch mon.margin (report_of mon.report (form_of mon.form input)) input text
+IsDone (Summary choice) name input text = IsSummedUp choice name input text
+IsDone (CaptureDiff pair) name input text = AreAlikeIn pair name input text
 IsDone (Follow choice) name input text = IsReported choice name input text
-IsDone (CapturedLine form inverted glitch) name input text = AreEdges (form_of form input) name inverted glitch input text
+IsDone (CapturedLine form inverted factor glitch) name input text = AreEdges (form_of form input) name inverted factor glitch input text
 IsDone (Json objects) name input text = AreObjectsOf objects name input text
+IsDone (EdidDiff dumps form) name input text = IsAlike dumps form input text
+IsDone (InfoFrame source reading place form) name input text = IsOffered (told source input) reading place form name input text
+IsDone (Eld form) name input text = IsEldRead form input text
 IsDone (Edid source reading view) name input text = IsMade (told source input) reading view input text
 
 -- the choices whose lines are answered as they come
@@ -169,10 +184,31 @@ pub record IsServed (known old new : Option (List ℕ)) (choice : CommandChoice)
 abbrev pub IsHelp : Option (List ℕ) → Option (List ℕ) → Type 0
 IsHelp old new = (text : List ℕ) × Appends old new text
 
--- A choice is done of several files: a report of the report of each, or what is made of them one after the other.
+-- two captures of files are alike
+pub record IsCompared (pair : CapturePair) (name : List ℕ) (known_first known_second old new : Option (List ℕ)) : Type 0 where
+  pub first : List ℕ
+  pub second : List ℕ
+  pub all_first : IsAllOf known_first first
+  pub all_second : IsAllOf known_second second
+  pub written : WritesAlike pair name first second old new
+
+abbrev pub IsComparedOf : CapturePair → List ℕ → List (List ℕ) → (List ℕ → Option (List ℕ)) → Option (List ℕ) → Option (List ℕ) → Type 0
+IsComparedOf pair name (first ∷ second ∷ []) held old new = IsCompared pair name (held first) (held second) old new
+IsComparedOf pair name files held old new = ⊥
+
+-- two captures are read each by itself, and EDIDs one after the other
+abbrev pub captures_of : CommandChoice → Option CapturePair
+captures_of (CaptureDiff pair) = Some pair
+captures_of choice = None
+
+abbrev pub AreServedBy : Option CapturePair → CommandChoice → List ℕ → List (List ℕ) → (List ℕ → Option (List ℕ)) → Option (List ℕ) → Option (List ℕ) → Type 0
+AreServedBy (Some pair) choice name files held old new = IsComparedOf pair name files held old new
+AreServedBy None choice name files held old new = IsServed (known_joined held files) old new choice name
+
+-- A choice is done of several files: a report of the report of each, or what is made of them together.
 abbrev pub AreServedTogether : Bool → CommandChoice → List ℕ → List (List ℕ) → (List ℕ → Option (List ℕ)) → Option (List ℕ) → Option (List ℕ) → Type 0
 AreServedTogether true choice name files held old new = WritesReports (report_kind choice) (IsDone choice name) held files old new
-AreServedTogether false choice name files held old new = IsServed (known_joined held files) old new choice name
+AreServedTogether false choice name files held old new = AreServedBy (captures_of choice) choice name files held old new
 
 abbrev pub IsServedOfSeveral : CommandChoice → List ℕ → List (List ℕ) → (List ℕ → Option (List ℕ)) → Option (List ℕ) → Option (List ℕ) → Type 0
 IsServedOfSeveral choice name files held old new = AreServedTogether (is_report choice) choice name files held old new
@@ -191,4 +227,4 @@ AreServedAs asked name operands stdin held old new =
 -- What the words of a command line ask for is done.
 abbrev pub AreServed : List (List ℕ) → Option (List ℕ) → (List ℕ → Option (List ℕ)) → Option (List ℕ) → Option (List ℕ) → Type 0
 AreServed words stdin held old new =
-    AreServedAs (asked_on (words_in words) (operands_in words)) (name_of (signal_in (words_in words))) (operands_in words) stdin held old new
+    AreServedAs (asked_on (words_in words) (operands_in words)) (name_of (named_in (words_in words))) (operands_in words) stdin held old new

@@ -7,8 +7,8 @@ use Rattle.std.specs.List.{flat_map}
 use Rattle.std.specs.Str.{bytes_eq}
 use Rattle.program_calls.specs.declared.reports.ReportKind.{ReportKind}
 use Rattle.program_calls.specs.declared.reports.ReportKind.TheVariants as kinds
-use Rattle.cli_words.specs.declared.choice.CommandChoice.{CommandChoice}
-use Rattle.cli_words.specs.declared.choice.CommandChoice.TheVariants.{Check}
+use Rattle.cli_choice.specs.declared.choice.CommandChoice.{CommandChoice}
+use Rattle.cli_choice.specs.declared.choice.CommandChoice.TheVariants.{Check}
 use Rattle.expect_sweep.specs.Script.{has_range}
 use Rattle.program_calls.specs.Tests.{remark_line}
 use Rattle.program_input.specs.Read.{IsAllOf}

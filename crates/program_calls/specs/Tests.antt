@@ -18,8 +18,8 @@ use Rattle.expect_sweep.specs.Script.{range_of}
 use Rattle.expect_sweep.specs.Stretches.{Stretch, all_hold, stretches_text}
 use Rattle.expect_sweep.specs.Sweep.{IsSweepOf}
 use Rattle.text_core.specs.Lines.{lines_of}
-use Rattle.cli_words.specs.declared.choice.TestView.{TestView}
-use Rattle.cli_words.specs.declared.choice.TestView.TheVariants as views
+use Rattle.cli_choice.specs.declared.choice.TestView.{TestView}
+use Rattle.cli_choice.specs.declared.choice.TestView.TheVariants as views
 
 -- a line as a remark
 abbrev pub remark_line : List ℕ → List ℕ

@@ -5,7 +5,7 @@ ghost use Rattle.program_calls.specs.Done.{WritesTestOf};
 use crate::expectations::write_test;
 use crate::fault::ProgramFault;
 use crate::told::Recap;
-use cli_words::TestView;
+use cli_choice::TestView;
 use expect_sweep::ProgressHearer;
 use program_input::run_parts;
 use record_core::Form;

@@ -5,7 +5,7 @@ ghost use Rattle.record_core.specs.declared.cell.Form.TheVariants.{Text, Json};
 ghost use Rattle.program_calls.specs.Tests.{AreRemarksOf, WritesPassed, WritesTest, head_cells, trace_remark, trace_remarks};
 
 use crate::fault::ProgramFault;
-use cli_words::TestView;
+use cli_choice::TestView;
 use expect_remarks::append_record;
 use expect_run::{CheckError, Tally, check};
 use expect_sweep::{ProgressHearer, SilentProgress, SweepError, sweep};

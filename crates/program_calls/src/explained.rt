@@ -1,7 +1,7 @@
 //! The faults of the program as they are explained.
 use crate::fault::ProgramFault;
 use capture_forms::CaptureForm;
-use cli_words::{CommandChoice, MonChoice, Objects, Source};
+use cli_choice::{CapturePair, CommandChoice, MonChoice, Objects, Source, SummaryChoice};
 use edid_core::EdidCause;
 use expect_run::CheckError;
 use explain_marks::{Input, InputFault as Explained, Parting, WholeFault};
@@ -32,8 +32,15 @@ pub fn input_of(choice: CommandChoice, input: &[u8]) -> Input {
         | CommandChoice::Dis { .. }
         | CommandChoice::Lay { .. }
         | CommandChoice::Mon(_)
+        | CommandChoice::Summary(_)
+        | CommandChoice::CaptureDiff(_)
+        | CommandChoice::EdidDiff { dumps: true, .. }
         | CommandChoice::CapturedLine { .. } => Input::Lines,
-        CommandChoice::Edid { source, .. } => match told(source, input) {
+        CommandChoice::EdidDiff { dumps: false, .. } | CommandChoice::Eld { .. } =>
+            Input::EdidBytes,
+        CommandChoice::Edid { source, .. } | CommandChoice::InfoFrame { source, .. } => match told(
+            source, input,
+        ) {
             Source::Bytes | Source::Pair { dumps: false, .. } => Input::EdidBytes,
             Source::Dump { .. } | Source::Pair { dumps: true, .. } => Input::Lines,
             Source::Text => Input::EdidText,
@@ -45,9 +52,10 @@ pub fn input_of(choice: CommandChoice, input: &[u8]) -> Input {
 /// The form of the capture that a choice takes from its input.
 pub fn form_in(choice: CommandChoice, input: &[u8]) -> CaptureForm {
     match choice {
-        CommandChoice::Mon(MonChoice { form, .. }) | CommandChoice::CapturedLine { form, .. } => {
-            form_of(form, input)
-        }
+        CommandChoice::Mon(MonChoice { form, .. })
+        | CommandChoice::Summary(SummaryChoice { form, .. })
+        | CommandChoice::CaptureDiff(CapturePair { form, .. })
+        | CommandChoice::CapturedLine { form, .. } => form_of(form, input),
         CommandChoice::Follow(choice) => match choice.form {
             LineForm::Edges => CaptureForm::Edges,
             LineForm::Pin => CaptureForm::Pin,
@@ -168,7 +176,10 @@ fn of_capture(form: CaptureForm, fault: &MonitorFault) -> Option<Explained> {
         },
         MonitorFault::Write(_) => Explained::Whole(WholeFault::Write),
         MonitorFault::Memory(_) => Explained::Whole(WholeFault::Memory),
-        MonitorFault::Remarked => return None,
+        MonitorFault::OtherLine(_)
+        | MonitorFault::Scaled
+        | MonitorFault::Differ
+        | MonitorFault::Remarked => return None,
     };
     Some(explained)
 }
@@ -186,7 +197,15 @@ fn of_edid(fault: &EdidFault) -> Option<Explained> {
         EdidFault::NoHdmiBlock => Explained::Edid(EdidCause::NoHdmiBlock),
         EdidFault::Write(_) => Explained::Whole(WholeFault::Write),
         EdidFault::Memory(_) => Explained::Whole(WholeFault::Memory),
-        EdidFault::RuleFails | EdidFault::Merge(_) | EdidFault::Speakers(_) => return None,
+        EdidFault::RuleFails
+        | EdidFault::Merge(_)
+        | EdidFault::Speakers(_)
+        | EdidFault::First(_)
+        | EdidFault::Second(_)
+        | EdidFault::Differ
+        | EdidFault::InfoFrame(_)
+        | EdidFault::NotOffered
+        | EdidFault::Eld(_) => return None,
     };
     Some(explained)
 }

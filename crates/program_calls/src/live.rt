@@ -1,7 +1,7 @@
 //! A session: the lines of an input, answered as they come.
 ghost use Rattle.std.specs.Prelude.{◌≡◌, OnOk};
 ghost use Rattle.text_core.specs.Buffered.{below};
-ghost use Rattle.cli_words.specs.Form.{form_by};
+ghost use Rattle.cli_choice.specs.Form.{form_by};
 ghost use Rattle.program_calls.specs.Live.{Lives};
 
 use crate::fault::ProgramFault;

@@ -7,7 +7,7 @@ use crate::check::test;
 use crate::fault::ProgramFault;
 use crate::run::{run_to_objects, run_to_room};
 use crate::told::Recap;
-use cli_words::{CommandChoice, Objects, TestView};
+use cli_choice::{CommandChoice, Objects, TestView};
 use expect_sweep::SilentProgress;
 use record_core::Form;
 use std::alloc::Global;

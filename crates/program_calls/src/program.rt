@@ -5,23 +5,25 @@ ghost use Rattle.text_core.specs.Buffered.{below};
 ghost use Rattle.program_captures.specs.Captures.{name_of};
 ghost use Rattle.program_captures.specs.Following.{FollowsTo};
 ghost use Rattle.std.specs.Option.{option_copied};
-ghost use Rattle.program_calls.specs.Done.{AreServed, AreServedAs, IsHelp, IsServed, IsServedOf, IsServedOfSeveral, Writes, is_line_by_line};
+ghost use Rattle.program_calls.specs.Done.{AreServed, AreServedAs, AreServedBy, IsCompared, IsComparedOf, IsHelp, IsServed, IsServedOf, IsServedOfSeveral, Writes, captures_of, is_line_by_line};
+ghost use Rattle.program_captures.specs.Compared.{WritesAlike};
 ghost use Rattle.program_calls.specs.Live.{Lives};
-ghost use Rattle.cli_words.specs.MonFlags.{signal_in};
+ghost use Rattle.cli_words.specs.Named.{named_in};
 ghost use Rattle.cli_words.specs.Operands.{asked_on, takes};
 ghost use Rattle.program_input.specs.Source.{known_bytes, known_joined};
 
 use crate::fault::ProgramFault;
-use crate::files::{FileFault, read_files};
+use crate::files::{FileFault, read_file, read_files};
 use crate::live::{Explainer, form_by, live};
-use crate::perform::perform;
+use crate::perform::{compare, perform};
 use crate::progress::ProgressLines;
-use crate::said::{remark, report};
+use crate::said::{remark, remark_fault, report};
 use crate::status::{USAGE, write_fault};
 use crate::told::Recap;
 use crate::waited::waited_for;
+use cli_choice::{Asked, CapturePair, CommandChoice, FollowChoice};
 use cli_command::{Refused, choose};
-use cli_words::{Asked, CommandChoice, CommandLine, FollowChoice, is_report, line_of, signal_in};
+use cli_words::{CommandLine, is_report, line_of, named_in};
 use program_captures::follow_capture;
 use program_input::{OpenFault, Opens, limit_of, read_input, source_of};
 use record_core::Form;
@@ -94,9 +96,9 @@ struct Followed<'a> {
 
 /// The name of the wire that some words name, or an empty one.
 pub(crate) fn signal_of(words: &[String]) -> &[u8]
-    ensures { result.now ≡ name_of (signal_in (map string_bytes words.now)) }
+    ensures { result.now ≡ name_of (named_in (map string_bytes words.now)) }
 {
-    match signal_in(words) {
+    match named_in(words) {
         Some(name) => name,
         None => &[],
     }
@@ -104,11 +106,21 @@ pub(crate) fn signal_of(words: &[String]) -> &[u8]
 
 // A copy of it.
 fn name_of(alloc: Global, words: &[String]) -> Result<Vec<u8>, AllocError>
-    ensures { IfOk result (λ name. name.items ≡ name_of (signal_in (map string_bytes words.now))) }
+    ensures { IfOk result (λ name. name.items ≡ name_of (named_in (map string_bytes words.now))) }
 {
-    match signal_in(words) {
+    match named_in(words) {
         Some(name) => name.to_vec(alloc),
         None => Ok(Vec::new(alloc)),
+    }
+}
+
+// The captures that a choice compares, if it does.
+fn captures_of(choice: CommandChoice) -> Option<CapturePair>
+    ensures { result ≡ captures_of choice }
+{
+    match choice {
+        CommandChoice::CaptureDiff(pair) => Some(pair),
+        _ => None,
     }
 }
 
@@ -128,6 +140,22 @@ impl Call<'_> {
         report(self.alloc, self.asked, None, fault, &topology, err)
     }
 
+    // Says why it failed with an input, which may be a file of a name. Answers the exit status.
+    pub(crate) fn fail_over<E: Sink>(
+        self,
+        name: Option<&str>,
+        signal: &[u8],
+        fault: &ProgramFault,
+        input: &[u8],
+        err: &mut E,
+    ) -> u8
+        ensures { 0 < result }
+    {
+        let status = report(self.alloc, self.asked, name, fault, input, err);
+        remark_fault(self.alloc, self.asked, signal, fault, input, err);
+        status
+    }
+
     // Does what is asked for with an input, and says how it went. Answers the exit status.
     fn answer<W: Sink, E: Sink>(
         self,
@@ -144,10 +172,10 @@ impl Call<'_> {
         let done = perform(alloc, asked.choice, signal, input, out, &mut progress);
         match handed_on(done, out) {
             Ok(told) => {
-                remark(alloc, asked, told, input, err);
+                remark(alloc, asked, signal, told, input, err);
                 0
             }
-            Err(fault) => report(alloc, asked, None, &fault, input, err),
+            Err(fault) => self.fail_over(None, signal, &fault, input, err),
         }
     }
 
@@ -248,7 +276,7 @@ impl Call<'_> {
         err: &mut E,
     ) -> u8
         requires { is_line_by_line self.asked.choice ≡ false }
-        ensures { result ≡ 0 → IsServed (R.remaining input.old) (⟦<Buffered<W> as Sink>⟧.contents out.old) (W.contents (below out.new)) self.entry.asked.choice (name_of (signal_in (map string_bytes self.entry.words.now))) }
+        ensures { result ≡ 0 → IsServed (R.remaining input.old) (⟦<Buffered<W> as Sink>⟧.contents out.old) (W.contents (below out.new)) self.entry.asked.choice (name_of (named_in (map string_bytes self.entry.words.now))) }
     {
         match name_of(self.alloc, self.words) {
             Ok(name) => self.serve_whole(&name, input, out, err),
@@ -264,7 +292,7 @@ impl Call<'_> {
         err: &mut E,
     ) -> ProgramEnd<W>
         requires { is_line_by_line self.asked.choice ≡ false }
-        ensures { result.status ≡ 0 → IsServed (R.remaining input.old) (W.contents out) (W.contents result.out) self.entry.asked.choice (name_of (signal_in (map string_bytes self.entry.words.now))) }
+        ensures { result.status ≡ 0 → IsServed (R.remaining input.old) (W.contents out) (W.contents result.out) self.entry.asked.choice (name_of (named_in (map string_bytes self.entry.words.now))) }
     {
         let mut out = Buffered::new(out);
         let status = self.serve_named(input, &mut out, err);
@@ -276,7 +304,7 @@ impl Call<'_> {
 
     // Does what is asked for.
     fn serve<R: Read, W: Sink, E: Sink>(self, input: &mut R, out: W, err: &mut E) -> ProgramEnd<W>
-        ensures { result.status ≡ 0 → IsServed (R.remaining input.old) (W.contents out) (W.contents result.out) self.entry.asked.choice (name_of (signal_in (map string_bytes self.entry.words.now))) }
+        ensures { result.status ≡ 0 → IsServed (R.remaining input.old) (W.contents out) (W.contents result.out) self.entry.asked.choice (name_of (named_in (map string_bytes self.entry.words.now))) }
     {
         match self.asked.choice {
             CommandChoice::Live { json } => self.serve_session(form_by(json), input, out, err),
@@ -313,7 +341,7 @@ impl Call<'_> {
         out: W,
         err: &mut E,
     ) -> ProgramEnd<W>
-        ensures { result.status ≡ 0 → IsServed (known_bytes (option_copied operand.entry) (R.remaining input.old) (F.held files.now)) (W.contents out) (W.contents result.out) self.entry.asked.choice (name_of (signal_in (map string_bytes self.entry.words.now))) }
+        ensures { result.status ≡ 0 → IsServed (known_bytes (option_copied operand.entry) (R.remaining input.old) (F.held files.now)) (W.contents out) (W.contents result.out) self.entry.asked.choice (name_of (named_in (map string_bytes self.entry.words.now))) }
     {
         self.announce(files, operand, err);
         match source_of(files, operand, input) {
@@ -337,7 +365,7 @@ impl Call<'_> {
         err: &mut E,
     ) -> u8
         requires { is_line_by_line self.asked.choice ≡ false }
-        ensures { result ≡ 0 → IsServed (known_joined (F.held files.now) (map string_bytes names.now)) (⟦<Buffered<W> as Sink>⟧.contents out.old) (W.contents (below out.new)) self.entry.asked.choice (name_of (signal_in (map string_bytes self.entry.words.now))) }
+        ensures { result ≡ 0 → IsServed (known_joined (F.held files.now) (map string_bytes names.now)) (⟦<Buffered<W> as Sink>⟧.contents out.old) (W.contents (below out.new)) self.entry.asked.choice (name_of (named_in (map string_bytes self.entry.words.now))) }
     {
         match read_files(self.alloc, limit_of(self.asked.choice), files, names) {
             Ok(input) => self.answer(signal_of(self.words), &input, out, err),
@@ -356,13 +384,110 @@ impl Call<'_> {
         err: &mut E,
     ) -> ProgramEnd<W>
         requires { is_line_by_line self.asked.choice ≡ false }
-        ensures { result.status ≡ 0 → IsServed (known_joined (F.held files.now) (map string_bytes names.now)) (W.contents out) (W.contents result.out) self.entry.asked.choice (name_of (signal_in (map string_bytes self.entry.words.now))) }
+        ensures { result.status ≡ 0 → IsServed (known_joined (F.held files.now) (map string_bytes names.now)) (W.contents out) (W.contents result.out) self.entry.asked.choice (name_of (named_in (map string_bytes self.entry.words.now))) }
     {
         let mut out = Buffered::new(out);
         let status = self.answer_joined(files, names, &mut out, err);
         ProgramEnd {
             status,
             out: out.into_below(),
+        }
+    }
+
+    // Writes where two captures differ, and says how it went. Answers the exit status.
+    fn compare<W: Sink, E: Sink>(
+        self,
+        pair: CapturePair,
+        signal: &[u8],
+        first: &[u8],
+        second: &[u8],
+        out: &mut Buffered<W>,
+        err: &mut E,
+    ) -> u8
+        ensures { result ≡ 0 → WritesAlike pair signal.now first.now second.now (⟦<Buffered<W> as Sink>⟧.contents out.old) (W.contents (below out.new)) }
+    {
+        let Call { alloc, asked, .. } = self;
+        let done = compare(alloc, pair, signal, first, second, out);
+        match handed_on(done, out) {
+            Ok(_told) => 0,
+            Err(fault) => report(alloc, asked, None, &fault, first, err),
+        }
+    }
+
+    // The same of the captures of two files.
+    fn answer_pair<F: Opens, W: Sink, E: Sink>(
+        self,
+        files: &F,
+        pair: CapturePair,
+        first: &str,
+        second: &str,
+        out: &mut Buffered<W>,
+        err: &mut E,
+    ) -> u8
+        ensures { result ≡ 0 → IsCompared pair (name_of (named_in (map string_bytes self.entry.words.now))) (F.held files.now first.now) (F.held files.now second.now) (⟦<Buffered<W> as Sink>⟧.contents out.old) (W.contents (below out.new)) }
+    {
+        let limit = limit_of(self.asked.choice);
+        match read_file(self.alloc, limit, files, first) {
+            Ok(one) => match read_file(self.alloc, limit, files, second) {
+                Ok(other) => self.compare(pair, signal_of(self.words), &one, &other, out, err),
+                Err(fault) => report(self.alloc, self.asked, Some(second), &fault, b"", err),
+            },
+            Err(fault) => report(self.alloc, self.asked, Some(first), &fault, b"", err),
+        }
+    }
+
+    // The same of two files. Others are not compared.
+    fn answer_two<F: Opens, W: Sink, E: Sink>(
+        self,
+        files: &F,
+        pair: CapturePair,
+        names: &[String],
+        out: &mut Buffered<W>,
+        err: &mut E,
+    ) -> u8
+        ensures { result ≡ 0 → IsComparedOf pair (name_of (named_in (map string_bytes self.entry.words.now))) (map string_bytes names.now) (F.held files.now) (⟦<Buffered<W> as Sink>⟧.contents out.old) (W.contents (below out.new)) }
+    {
+        match names {
+            [first, second] => {
+                self.answer_pair(files, pair, first.as_str(), second.as_str(), out, err)
+            }
+            _ => USAGE,
+        }
+    }
+
+    // The same, and how it ended.
+    fn serve_pair<F: Opens, W: Sink, E: Sink>(
+        self,
+        files: &F,
+        pair: CapturePair,
+        names: &[String],
+        out: W,
+        err: &mut E,
+    ) -> ProgramEnd<W>
+        ensures { result.status ≡ 0 → IsComparedOf pair (name_of (named_in (map string_bytes self.entry.words.now))) (map string_bytes names.now) (F.held files.now) (W.contents out) (W.contents result.out) }
+    {
+        let mut out = Buffered::new(out);
+        let status = self.answer_two(files, pair, names, &mut out, err);
+        ProgramEnd {
+            status,
+            out: out.into_below(),
+        }
+    }
+
+    // Does what is asked for with files that are read together.
+    fn serve_together<F: Opens, W: Sink, E: Sink>(
+        self,
+        files: &F,
+        names: &[String],
+        out: W,
+        err: &mut E,
+    ) -> ProgramEnd<W>
+        requires { is_line_by_line self.asked.choice ≡ false }
+        ensures { result.status ≡ 0 → AreServedBy (captures_of self.entry.asked.choice) self.entry.asked.choice (name_of (named_in (map string_bytes self.entry.words.now))) (map string_bytes names.now) (F.held files.now) (W.contents out) (W.contents result.out) }
+    {
+        match captures_of(self.asked.choice) {
+            Some(pair) => self.serve_pair(files, pair, names, out, err),
+            None => self.serve_joined(files, names, out, err),
         }
     }
 
@@ -375,12 +500,12 @@ impl Call<'_> {
         err: &mut E,
     ) -> ProgramEnd<W>
         requires { is_line_by_line self.asked.choice ≡ false }
-        ensures { result.status ≡ 0 → IsServedOfSeveral self.entry.asked.choice (name_of (signal_in (map string_bytes self.entry.words.now))) (map string_bytes names.now) (F.held files.now) (W.contents out) (W.contents result.out) }
+        ensures { result.status ≡ 0 → IsServedOfSeveral self.entry.asked.choice (name_of (named_in (map string_bytes self.entry.words.now))) (map string_bytes names.now) (F.held files.now) (W.contents out) (W.contents result.out) }
     {
         if is_report(self.asked.choice) {
             self.serve_reports(files, names, out, err)
         } else {
-            self.serve_joined(files, names, out, err)
+            self.serve_together(files, names, out, err)
         }
     }
 
@@ -394,7 +519,7 @@ impl Call<'_> {
         err: &mut E,
     ) -> ProgramEnd<W>
         requires { takes self.asked.choice (length (map string_bytes operands.now)) ≡ true }
-        ensures { result.status ≡ 0 → IsServedOf self.entry.asked.choice (name_of (signal_in (map string_bytes self.entry.words.now))) (map string_bytes operands.now) (R.remaining input.old) (F.held files.now) (W.contents out) (W.contents result.out) }
+        ensures { result.status ≡ 0 → IsServedOf self.entry.asked.choice (name_of (named_in (map string_bytes self.entry.words.now))) (map string_bytes operands.now) (R.remaining input.old) (F.held files.now) (W.contents out) (W.contents result.out) }
     {
         match operands {
             [] => self.serve_operand(files, None, input, out, err),
@@ -426,7 +551,7 @@ fn act<F: Opens, R: Read, W: Sink, E: Sink>(
     out: W,
     err: &mut E,
 ) -> ProgramEnd<W>
-    ensures { result.status ≡ 0 → AreServedAs (asked_on (map string_bytes line.now.words.items) (map string_bytes line.now.operands.items)) (name_of (signal_in (map string_bytes line.now.words.items))) (map string_bytes line.now.operands.items) (R.remaining input.old) (F.held files.now) (W.contents out) (W.contents result.out) }
+    ensures { result.status ≡ 0 → AreServedAs (asked_on (map string_bytes line.now.words.items) (map string_bytes line.now.operands.items)) (name_of (named_in (map string_bytes line.now.words.items))) (map string_bytes line.now.operands.items) (R.remaining input.old) (F.held files.now) (W.contents out) (W.contents result.out) }
 {
     match choose(alloc, words, line) {
         Ok(asked) => Call {

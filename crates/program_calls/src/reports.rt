@@ -4,7 +4,7 @@ ghost use Rattle.std.specs.Io.KnownBytes.{Appends};
 ghost use Rattle.std.specs.List.{flat_map};
 ghost use Rattle.text_core.specs.Buffered.{below};
 ghost use Rattle.text_core.specs.Lines.{lines_of};
-ghost use Rattle.cli_words.specs.MonFlags.{signal_in};
+ghost use Rattle.cli_words.specs.Named.{named_in};
 ghost use Rattle.program_captures.specs.Captures.{name_of};
 ghost use Rattle.program_calls.specs.Done.{IsDone, is_line_by_line};
 ghost use Rattle.program_calls.specs.Reports.{WritesNested, WritesNestedFile, WritesNestedInput, WritesReports, is_swept, nested_line, nested_text, plan_line, report_kind, result_line};
@@ -17,7 +17,7 @@ use crate::program::{Call, ProgramEnd, signal_of};
 use crate::progress::ProgressLines;
 use crate::said::{remark, report};
 use crate::status::write_fault;
-use cli_words::CommandChoice;
+use cli_choice::CommandChoice;
 use expect_sweep::has_range;
 use program_input::{Opens, limit_of};
 use std::alloc::AllocError;
@@ -191,7 +191,7 @@ impl Call<'_> {
         err: &mut E,
     ) -> Result<u8, WriteFault>
         requires { is_line_by_line self.asked.choice ≡ false }
-        ensures { IfOk result (λ status. status ≡ 0 → WritesNestedInput (report_kind self.entry.asked.choice) (IsDone self.entry.asked.choice (name_of (signal_in (map string_bytes self.entry.words.now)))) input.now number name.now (W.contents out.old) (W.contents out.new)) }
+        ensures { IfOk result (λ status. status ≡ 0 → WritesNestedInput (report_kind self.entry.asked.choice) (IsDone self.entry.asked.choice (name_of (named_in (map string_bytes self.entry.words.now)))) input.now number name.now (W.contents out.old) (W.contents out.new)) }
     {
         let Call { alloc, asked, .. } = self;
         let mut held = Held::new(alloc);
@@ -207,14 +207,14 @@ impl Call<'_> {
         write_result(done.is_ok(), number, name, out)?;
         match done {
             Ok(told) => {
-                remark(alloc, asked, told, input, err);
+                remark(alloc, asked, signal, told, input, err);
                 Ok(0)
             }
             Err(_) if held.is_full() => {
                 let fault = ProgramFault::Memory(AllocError);
                 Ok(report(alloc, asked, Some(name), &fault, input, err))
             }
-            Err(fault) => Ok(report(alloc, asked, Some(name), &fault, input, err)),
+            Err(fault) => Ok(self.fail_over(Some(name), signal, &fault, input, err)),
         }
     }
 
@@ -228,7 +228,7 @@ impl Call<'_> {
         err: &mut E,
     ) -> Result<u8, WriteFault>
         requires { is_line_by_line self.asked.choice ≡ false }
-        ensures { IfOk result (λ status. status ≡ 0 → WritesNestedFile (report_kind self.entry.asked.choice) (IsDone self.entry.asked.choice (name_of (signal_in (map string_bytes self.entry.words.now)))) (F.held files.now name.now) number name.now (W.contents out.old) (W.contents out.new)) }
+        ensures { IfOk result (λ status. status ≡ 0 → WritesNestedFile (report_kind self.entry.asked.choice) (IsDone self.entry.asked.choice (name_of (named_in (map string_bytes self.entry.words.now)))) (F.held files.now name.now) number name.now (W.contents out.old) (W.contents out.new)) }
     {
         match read_file(self.alloc, limit_of(self.asked.choice), files, name) {
             Ok(input) => self.report_input(&input, number, name, out, err),
@@ -249,7 +249,7 @@ impl Call<'_> {
         err: &mut E,
     ) -> Result<u8, WriteFault>
         requires { is_line_by_line self.asked.choice ≡ false }
-        ensures { IfOk result (λ status. status ≡ 0 → WritesNested (report_kind self.entry.asked.choice) (IsDone self.entry.asked.choice (name_of (signal_in (map string_bytes self.entry.words.now)))) (F.held files.now) count (map string_bytes names.now) (W.contents out.old) (W.contents out.new)) }
+        ensures { IfOk result (λ status. status ≡ 0 → WritesNested (report_kind self.entry.asked.choice) (IsDone self.entry.asked.choice (name_of (named_in (map string_bytes self.entry.words.now)))) (F.held files.now) count (map string_bytes names.now) (W.contents out.old) (W.contents out.new)) }
     {
         match names {
             [] => Ok(0),
@@ -271,7 +271,7 @@ impl Call<'_> {
         err: &mut E,
     ) -> Result<u8, WriteFault>
         requires { is_line_by_line self.asked.choice ≡ false }
-        ensures { IfOk result (λ status. status ≡ 0 → WritesReports (report_kind self.entry.asked.choice) (IsDone self.entry.asked.choice (name_of (signal_in (map string_bytes self.entry.words.now)))) (F.held files.now) (map string_bytes names.now) (W.contents out.old) (W.contents out.new)) }
+        ensures { IfOk result (λ status. status ≡ 0 → WritesReports (report_kind self.entry.asked.choice) (IsDone self.entry.asked.choice (name_of (named_in (map string_bytes self.entry.words.now)))) (F.held files.now) (map string_bytes names.now) (W.contents out.old) (W.contents out.new)) }
     {
         put_all(out, NESTED_VERSION)?;
         let status = self.report_each(files, names.len(), names, out, err)?;
@@ -288,7 +288,7 @@ impl Call<'_> {
         err: &mut E,
     ) -> u8
         requires { is_line_by_line self.asked.choice ≡ false }
-        ensures { result ≡ 0 → WritesReports (report_kind self.entry.asked.choice) (IsDone self.entry.asked.choice (name_of (signal_in (map string_bytes self.entry.words.now)))) (F.held files.now) (map string_bytes names.now) (⟦<Buffered<W> as Sink>⟧.contents out.old) (W.contents (below out.new)) }
+        ensures { result ≡ 0 → WritesReports (report_kind self.entry.asked.choice) (IsDone self.entry.asked.choice (name_of (named_in (map string_bytes self.entry.words.now)))) (F.held files.now) (map string_bytes names.now) (⟦<Buffered<W> as Sink>⟧.contents out.old) (W.contents (below out.new)) }
     {
         let done = self.report_files(files, names, out, err);
         match out.flush() {
@@ -309,7 +309,7 @@ impl Call<'_> {
         err: &mut E,
     ) -> ProgramEnd<W>
         requires { is_line_by_line self.asked.choice ≡ false }
-        ensures { result.status ≡ 0 → WritesReports (report_kind self.entry.asked.choice) (IsDone self.entry.asked.choice (name_of (signal_in (map string_bytes self.entry.words.now)))) (F.held files.now) (map string_bytes names.now) (W.contents out) (W.contents result.out) }
+        ensures { result.status ≡ 0 → WritesReports (report_kind self.entry.asked.choice) (IsDone self.entry.asked.choice (name_of (named_in (map string_bytes self.entry.words.now)))) (F.held files.now) (map string_bytes names.now) (W.contents out) (W.contents result.out) }
     {
         let mut out = Buffered::new(out);
         let status = self.hand_on_reports(files, names, &mut out, err);

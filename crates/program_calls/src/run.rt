@@ -5,7 +5,7 @@ ghost use Rattle.program_calls.specs.Done.{Writes, WritesDrives, WritesLine};
 use crate::fault::ProgramFault;
 use crate::told::Recap;
 use capture_forms::CaptureForm;
-use cli_words::{CommandChoice, Listing, Objects};
+use cli_choice::{CommandChoice, Listing, Objects};
 use program_input::run_parts;
 use room_driven::{Wires, emulate_drives};
 use room_run::Totals;

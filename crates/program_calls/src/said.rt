@@ -6,10 +6,11 @@ use crate::fault::ProgramFault;
 use crate::status::{write_fault, write_fault_of};
 use crate::told::Recap;
 use capture_forms::CaptureForm;
-use cli_words::{Asked, CommandChoice, MonChoice, Objects, View};
+use capture_scale::AS_IT_IS;
+use cli_choice::{Asked, CaptureSummary, CommandChoice, MonChoice, Objects, SummaryChoice, View};
 use expect_run::Tally;
 use explain_core::{counts, explain};
-use program_captures::{Signs, name_lost, write_hints};
+use program_captures::{MonitorFault, ReadAs, Signs, name_lost, name_verdict, name_wires};
 use program_edids::{
     EdidFault, explain_lack, explain_merge, explain_rules, explain_speakers, name_read,
 };
@@ -67,6 +68,11 @@ fn lack_of(
     match (choice, fault) {
         (
             CommandChoice::Edid {
+                source,
+                reading,
+                ..
+            }
+            | CommandChoice::InfoFrame {
                 source,
                 reading,
                 ..
@@ -129,9 +135,9 @@ fn add_help<E: Sink>(text: Result<String, AllocError>, err: &mut E) {
 // Names the lines of a capture before which events were lost.
 fn name_lost_of<E: Sink>(alloc: Global, choice: CommandChoice, input: &[u8], err: &mut E) {
     match choice {
-        CommandChoice::Mon(MonChoice { form, .. }) | CommandChoice::CapturedLine { form, .. } => {
-            name_lost(alloc, form, input, err)
-        }
+        CommandChoice::Mon(MonChoice { form, .. })
+        | CommandChoice::Summary(SummaryChoice { form, .. })
+        | CommandChoice::CapturedLine { form, .. } => name_lost(alloc, form, input, err),
         CommandChoice::CheckCapture { form, .. }
         | CommandChoice::Json(Objects::CaptureTest { form, .. }) => {
             if let Ok((_, taken)) = capture_parts(input) {
@@ -178,21 +184,98 @@ pub fn report<E: Sink>(
     status
 }
 
-// Says what may have to be asked for otherwise of a capture.
-fn hint<E: Sink>(alloc: Global, choice: CommandChoice, signs: Signs, input: &[u8], err: &mut E) {
+// Names the wires of a capture where nothing was read on the first.
+fn name_wires_of<E: Sink>(
+    alloc: Global,
+    choice: CommandChoice,
+    signs: Signs,
+    input: &[u8],
+    err: &mut E,
+) {
+    match choice {
+        CommandChoice::Mon(_) | CommandChoice::Summary(_) => {
+            name_wires(alloc, form_in(choice, input), signs, input, err);
+        }
+        _ => {}
+    }
+}
+
+// How the capture of a choice is read, where the choice is no verdict itself.
+fn read_by(choice: CommandChoice) -> Option<ReadAs> {
     match choice {
         CommandChoice::Mon(
             MonChoice {
+                form,
+                inverted,
+                scale,
                 glitch,
                 margin,
-                inverted,
                 ..
             },
         ) => {
-            let form = form_in(choice, input);
-            write_hints(alloc, form, inverted, glitch, margin, signs, input, err);
+            Some(ReadAs {
+                form,
+                inverted,
+                scale,
+                glitch,
+                margin,
+            })
         }
-        _ => {}
+        CommandChoice::Summary(
+            SummaryChoice {
+                summary: CaptureSummary::Verdict,
+                ..
+            },
+        ) => None,
+        CommandChoice::Summary(
+            SummaryChoice {
+                form,
+                inverted,
+                scale,
+                glitch,
+                margin,
+                ..
+            },
+        ) => {
+            Some(ReadAs {
+                form,
+                inverted,
+                scale,
+                glitch,
+                margin,
+            })
+        }
+        CommandChoice::CheckCapture { form, glitch }
+        | CommandChoice::Json(Objects::CaptureTest { form, glitch }) => {
+            Some(ReadAs {
+                form,
+                inverted: false,
+                scale: AS_IT_IS,
+                glitch,
+                margin: 0,
+            })
+        }
+        _ => None,
+    }
+}
+
+// Says what the line of a capture looks like: with `--explain` of each, else where it is not fine. Of an edge file that `mon` reads with
+// no flag it says nothing without `--explain`.
+#[inline(never)]
+fn name_verdict_of<E: Sink>(alloc: Global, asked: Asked, signal: &[u8], input: &[u8], err: &mut E) {
+    if !asked.explains && is_plain(asked.choice, input) {
+        return;
+    }
+    let Some(read) = read_by(asked.choice) else {
+        return;
+    };
+    match asked.choice {
+        CommandChoice::CheckCapture { .. } | CommandChoice::Json(_) => {
+            if let Ok((_, taken)) = capture_parts(input) {
+                name_verdict(alloc, read, signal, asked.explains, taken, err);
+            }
+        }
+        _ => name_verdict(alloc, read, signal, asked.explains, input, err),
     }
 }
 
@@ -200,6 +283,7 @@ fn hint<E: Sink>(alloc: Global, choice: CommandChoice, signs: Signs, input: &[u8
 fn has_no_flag(mon: MonChoice) -> bool {
     mon.form.is_none()
         && mon.report.is_none()
+        && mon.scale == AS_IT_IS
         && mon.glitch == 0
         && mon.margin == 0
         && !mon.inverted
@@ -217,10 +301,35 @@ fn is_plain(choice: CommandChoice, input: &[u8]) -> bool {
     }
 }
 
-/// Writes what there is to say besides of what was done: events that a capture lost, what may have to be asked for otherwise of
-/// it, and with `--explain` the counts of a run and what the rules ask that an EDID breaks. Of an edge file that `mon` reads with no
-/// flag it says nothing.
-pub fn remark<E: Sink>(alloc: Global, asked: Asked, told: Recap, input: &[u8], err: &mut E) {
+/// Says what the line of a capture looks like whose report was written whole, and is a fault: of a strict audit with a remark, or of
+/// expectations that it does not meet.
+pub fn remark_fault<E: Sink>(
+    alloc: Global,
+    asked: Asked,
+    signal: &[u8],
+    fault: &ProgramFault,
+    input: &[u8],
+    err: &mut E,
+) {
+    match fault {
+        ProgramFault::TestsFailed(_) | ProgramFault::Capture(MonitorFault::Remarked) => {
+            name_verdict_of(alloc, asked, signal, input, err);
+        }
+        _ => {}
+    }
+}
+
+/// Writes what there is to say besides of what was done: events that a capture lost, the wires of one on whose first nothing was read,
+/// what its line looks like, and with `--explain` the counts of a run, and what the rules ask that an EDID breaks. Of an edge file that
+/// `mon` reads with no flag, and of a capture that is as its expectations have it, it says nothing of the line without `--explain`.
+pub fn remark<E: Sink>(
+    alloc: Global,
+    asked: Asked,
+    signal: &[u8],
+    told: Recap,
+    input: &[u8],
+    err: &mut E,
+) {
     name_lost_of(alloc, asked.choice, input, err);
     name_read(alloc, asked.choice, input, err);
     match told {
@@ -230,13 +339,13 @@ pub fn remark<E: Sink>(alloc: Global, asked: Asked, told: Recap, input: &[u8], e
             }
         }
         Recap::Capture(signs) => {
-            if asked.explains || !is_plain(asked.choice, input) {
-                hint(alloc, asked.choice, signs, input, err);
-            }
+            name_wires_of(alloc, asked.choice, signs, input, err);
+            name_verdict_of(alloc, asked, signal, input, err);
         }
         Recap::Nothing => {
             if asked.explains {
                 add_help(rules_of(alloc, asked.choice, input), err);
+                name_verdict_of(alloc, asked, signal, input, err);
             }
         }
     }

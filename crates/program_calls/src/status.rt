@@ -16,7 +16,7 @@ use std::fmt::Write;
 use text_core::{Piece, Sink, put_all, write_pieces};
 
 /// The input is refused, or what was done is not as it was wanted: an event of a strict run was refused, a strict audit has a
-/// remark, a test failed.
+/// remark, a test failed, two EDIDs or captures differ, a display does not offer an InfoFrame.
 const REFUSED: u8 = 1;
 
 /// The command line is refused.
@@ -64,7 +64,13 @@ impl ProgramFault {
             | ProgramFault::Memory(_) => NO_MEMORY,
             ProgramFault::Edid(EdidFault::RuleFails) => RULE_FAILS,
             ProgramFault::Input(InputError::NoParting(_))
-            | ProgramFault::Capture(MonitorFault::Line(_) | MonitorFault::Remarked)
+            | ProgramFault::Capture(
+                MonitorFault::Line(_)
+                | MonitorFault::OtherLine(_)
+                | MonitorFault::Scaled
+                | MonitorFault::Differ
+                | MonitorFault::Remarked,
+            )
             | ProgramFault::Edid(_)
             | ProgramFault::Emulate(_)
             | ProgramFault::EventsRefused(_)

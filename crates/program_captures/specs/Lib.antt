@@ -1,3 +1,5 @@
 pub mod Captures
+pub mod Compared
 pub mod Edges
 pub mod Following
+pub mod Summaries

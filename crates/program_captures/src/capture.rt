@@ -3,7 +3,7 @@ ghost use Rattle.std.specs.Prelude.{◌≡◌, ◌≤◌, ◌&&◌, min, IfOk, L
 ghost use Rattle.line_reading.specs.Windows.{AreWindows, most_margin};
 ghost use Rattle.capture_monitor.specs.Watch.{captured_by};
 ghost use Rattle.audit_notes.specs.Lines.{AuditLine};
-ghost use Rattle.program_captures.specs.Captures.{AreLinesOf, Reports, Shown, edges_kept, edges_turned, form_of, is_strict, report_of};
+ghost use Rattle.program_captures.specs.Captures.{AreLinesOf, Reports, Shown, edges_kept, edges_scaled, edges_turned, end_scaled, form_of, is_strict, report_of};
 
 use crate::fault::MonitorFault;
 use crate::signs::{Signs, has_several, signs_of};
@@ -14,8 +14,9 @@ use capture_core::Capture;
 use capture_forms::{CaptureForm, read_capture};
 use capture_invert::invert;
 use capture_pin::lost_lines;
+use capture_scale::{AS_IT_IS, ScaleError, scale};
 use capture_smooth::smooth_edges;
-use cli_words::CaptureReport;
+use cli_choice::CaptureReport;
 use line_reading::{MOST_MARGIN, Windows};
 use record_core::Form;
 use std::alloc::{AllocError, Global};
@@ -27,6 +28,7 @@ use text_core::{Counted, Sink, WriteFault, put_all};
 struct Hearing<'a> {
     signal: &'a [u8],
     inverted: bool,
+    scale: u64,
     glitch: u64,
     margin: u64,
     written: Form,
@@ -68,22 +70,50 @@ pub fn without_short(alloc: Global, glitch: u64, whole: Capture) -> Result<Captu
     }
 }
 
-// A capture as it is read: as it stands or of a probe that turns the level of the line, and without pulses and gaps that are too
-// short.
+// A capture with its times as they stand, or multiplied.
+fn scaled_by(alloc: Global, factor: u64, whole: Capture) -> Result<Capture, ScaleError>
+    ensures edges { IfOk result (λ c. c.edges ≡ edges_scaled factor whole.edges) }
+    ensures end { IfOk result (λ c. c.end ≡ end_scaled factor whole.end) }
+{
+    if factor == AS_IT_IS {
+        Ok(whole)
+    } else {
+        scale(alloc, &whole, factor)
+    }
+}
+
+// The same without pulses and gaps that are too short by the scaled times.
+fn scaled_without_short(
+    alloc: Global,
+    factor: u64,
+    glitch: u64,
+    whole: Capture,
+) -> Result<Capture, MonitorFault>
+    ensures edges { IfOk result (λ c. c.edges ≡ edges_kept glitch (edges_scaled factor whole.edges)) }
+    ensures end { IfOk result (λ c. c.end ≡ end_scaled factor whole.end) }
+{
+    let scaled = scaled_by(alloc, factor, whole)?;
+    let kept = without_short(alloc, glitch, scaled)?;
+    Ok(kept)
+}
+
+// A capture as it is read: as it stands or of a probe that turns the level of the line, with its times multiplied, and then without
+// pulses and gaps that are too short.
 pub(crate) fn as_read(
     alloc: Global,
     inverted: bool,
+    factor: u64,
     glitch: u64,
     whole: Capture,
-) -> Result<Capture, AllocError>
-    ensures edges { IfOk result (λ c. c.edges ≡ edges_kept glitch (edges_turned inverted whole.edges)) }
-    ensures end { IfOk result (λ c. c.end ≡ whole.end) }
+) -> Result<Capture, MonitorFault>
+    ensures edges { IfOk result (λ c. c.edges ≡ edges_kept glitch (edges_scaled factor (edges_turned inverted whole.edges))) }
+    ensures end { IfOk result (λ c. c.end ≡ end_scaled factor whole.end) }
 {
     if inverted {
         let turned = invert(alloc, &whole)?;
-        without_short(alloc, glitch, turned)
+        scaled_without_short(alloc, factor, glitch, turned)
     } else {
-        without_short(alloc, glitch, whole)
+        scaled_without_short(alloc, factor, glitch, whole)
     }
 }
 
@@ -204,8 +234,8 @@ pub(crate) fn fails(report: CaptureReport, remarked: bool) -> bool
     is_strict(report) && remarked
 }
 
-// Fails where a remark makes a report a fault. All of it is written then.
-fn without_remark(report: CaptureReport, remarked: bool) -> Result<(), MonitorFault>
+/// Fails where a remark makes a report a fault. All of it is written then.
+pub(crate) fn without_remark(report: CaptureReport, remarked: bool) -> Result<(), MonitorFault>
     ensures { OnOk result (is_strict report ≡ true → remarked ≡ false) }
 {
     if fails(report, remarked) {
@@ -235,10 +265,16 @@ fn listen<W: Sink>(
     input: &[u8],
     out: &mut W,
 ) -> Result<Signs, MonitorFault>
-    ensures { OnOk result (Shown hearing.entry.written hearing.entry.folds form hearing.entry.signal.now hearing.entry.inverted hearing.entry.glitch hearing.entry.margin report input.now (W.contents out.old) (W.contents out.new)) }
+    ensures { OnOk result (Shown hearing.entry.written hearing.entry.folds form hearing.entry.signal.now hearing.entry.inverted hearing.entry.scale hearing.entry.glitch hearing.entry.margin report input.now (W.contents out.old) (W.contents out.new)) }
 {
     let whole = read_capture(alloc, form, hearing.signal, input)?;
-    let kept = as_read(alloc, hearing.inverted, hearing.glitch, whole)?;
+    let kept = as_read(
+        alloc,
+        hearing.inverted,
+        hearing.scale,
+        hearing.glitch,
+        whole,
+    )?;
     let windows = Windows::wider(within_most(hearing.margin));
     let remarked = write_either(&kept, windows, report, hearing.written, hearing.folds, out)?;
     without_remark(report, remarked)?;
@@ -247,8 +283,9 @@ fn listen<W: Sink>(
 }
 
 /// Writes what is asked for of a capture, its lines or their objects: in a form, or in the one that its first line reports, of the
-/// wire of a name, or the first where that is empty, with its levels turned or not, as windows read it that are `margin` wider at
-/// either side; as it stands or with bad starts one after another as one line. Returns what the capture looks like.
+/// wire of a name, or the first where that is empty, with its levels turned or not, its times multiplied by so many ten-thousandths, as
+/// windows read it that are `margin` wider at either side; as it stands or with bad starts one after another as one line. Returns what
+/// the capture looks like.
 pub fn show<W: Sink>(
     alloc: Global,
     written: Form,
@@ -256,17 +293,19 @@ pub fn show<W: Sink>(
     form: Option<CaptureForm>,
     signal: &[u8],
     inverted: bool,
+    scale: u64,
     glitch: u64,
     margin: u64,
     report: Option<CaptureReport>,
     input: &[u8],
     out: &mut W,
 ) -> Result<Signs, MonitorFault>
-    ensures { OnOk result (Shown written folds (form_of form input.now) signal.now inverted glitch margin (report_of report (form_of form input.now)) input.now (W.contents out.old) (W.contents out.new)) }
+    ensures { OnOk result (Shown written folds (form_of form input.now) signal.now inverted scale glitch margin (report_of report (form_of form input.now)) input.now (W.contents out.old) (W.contents out.new)) }
 {
     let hearing = Hearing {
         signal,
         inverted,
+        scale,
         glitch,
         margin,
         written,

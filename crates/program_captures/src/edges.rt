@@ -51,20 +51,22 @@ fn write_edges_of<W: Sink>(capture: &Capture, out: &mut W) -> Result<(), WriteFa
 }
 
 /// Writes the line of a capture as an edge file: the capture in a form, or in the one that its first line reports, of the wire of a
-/// name, or the first where that is empty, with its levels turned or not, and without pulses and gaps that are too short.
+/// name, or the first where that is empty, with its levels turned or not, its times multiplied by so many ten-thousandths, and without
+/// pulses and gaps that are too short.
 pub fn write_edges<W: Sink>(
     alloc: Global,
     form: Option<CaptureForm>,
     signal: &[u8],
     inverted: bool,
+    scale: u64,
     glitch: u64,
     input: &[u8],
     out: &mut W,
 ) -> Result<(), MonitorFault>
-    ensures { OnOk result (WritesEdges (form_of form input.now) signal.now inverted glitch input.now (W.contents out.old) (W.contents out.new)) }
+    ensures { OnOk result (WritesEdges (form_of form input.now) signal.now inverted scale glitch input.now (W.contents out.old) (W.contents out.new)) }
 {
     let whole = read_capture(alloc, form_of(form, input), signal, input)?;
-    let kept = as_read(alloc, inverted, glitch, whole)?;
+    let kept = as_read(alloc, inverted, scale, glitch, whole)?;
     write_edges_of(&kept, out)?;
     Ok(())
 }

@@ -1,15 +1,15 @@
 //! What is reported of a capture as its lines come.
 ghost use Rattle.std.specs.Prelude.{◌≡◌, IfErr, OnOk, false, true};
-ghost use Rattle.cli_words.specs.declared.choice.FollowReport.TheVariants as reports;
+ghost use Rattle.cli_choice.specs.declared.choice.FollowReport.TheVariants as reports;
 ghost use Rattle.text_core.specs.Buffered.{below, pending};
 ghost use Rattle.program_captures.specs.Following.{FollowsTo, IsCauseOf, IsOfRemark, StopsAs, StopsAudit, StopsSo, fault_of, reception_of};
 ghost use Rattle.line_reading.specs.Windows.{AreWindows};
 
 use crate::capture::{fails, within_most};
 use crate::fault::MonitorFault;
-use cli_words::{CaptureReport, FollowChoice, FollowReport};
+use cli_choice::{CaptureReport, FollowChoice, FollowReport};
 use follow_audit::{AuditView, FollowAuditError, follow_audit};
-use follow_core::{FollowError, Reception, follow};
+use follow_core::{FollowError, ReadingView, Reception, follow};
 use line_reading::Windows;
 use std::alloc::{AllocError, Global};
 use std::io::Read;
@@ -50,24 +50,26 @@ fn reception_of(choice: FollowChoice) -> Reception
     }
 }
 
-// Writes the readings. Where a line is at fault, what is over by the lines before it is written and handed on.
+// Writes the readings, or those from where the line was first idle. Where a line is at fault, what is shown of the lines before it is
+// written and handed on.
 fn follow_readings<R: Read, W: Sink>(
     choice: FollowChoice,
+    from_idle: bool,
+    folded: bool,
     signal: &[u8],
     input: &mut R,
     out: &mut Buffered<W>,
 ) -> Result<(), MonitorFault>
-    ensures done { OnOk result (FollowsTo (record choice { report = reports.Readings }) signal.now (R.remaining input.old) (⟦<Buffered<W> as Sink>⟧.contents out.old) (W.contents (below out.new))) }
-    ensures stops { IfErr result (StopsSo choice signal.now (R.remaining input.old) (⟦<Buffered<W> as Sink>⟧.contents out.old) (⟦<Buffered<W> as Sink>⟧.contents out.new) (pending out.old) (pending out.new)) }
+    ensures done { OnOk result (FollowsTo (record choice { report = reports.Readings from_idle folded }) signal.now (R.remaining input.old) (⟦<Buffered<W> as Sink>⟧.contents out.old) (W.contents (below out.new))) }
+    ensures stops { IfErr result (StopsSo choice from_idle folded signal.now (R.remaining input.old) (⟦<Buffered<W> as Sink>⟧.contents out.old) (⟦<Buffered<W> as Sink>⟧.contents out.new) (pending out.old) (pending out.new)) }
 {
-    match follow(
-        choice.form,
-        signal,
-        choice.written,
-        reception_of(choice),
-        input,
-        out,
-    ) {
+    let written = choice.written;
+    let view = ReadingView {
+        written,
+        from_idle,
+        folds: folded,
+    };
+    match follow(choice.form, signal, view, reception_of(choice), input, out) {
         Ok(()) => Ok(()),
         Err(error) => Err(fault_of(error)),
     }
@@ -116,8 +118,9 @@ fn follow_remarks<R: Read, W: Sink>(
 }
 
 /// Writes each reading of a capture as soon as it is over by the lines that have come, of the wire of a name, or of the first where
-/// that is empty, as windows read it that are `margin` wider at either side, 300 at most: its line, or its object. It hands that on
-/// before the next line is read; of an audit also what there is to remark, as soon as the edges that have come say all of it, and the
+/// that is empty, as windows read it that are `margin` wider at either side, 300 at most: its line, or its object; from where the line
+/// was first idle with one line for those that begin before, as soon as that is known. It hands that on before the next line is read;
+/// of an audit also what there is to remark, as soon as the edges that have come say all of it, and the
 /// summary at the end. Where a line is at fault, what was written by the lines before it stays; where a remark is one, all is written.
 pub fn follow_capture<R: Read, W: Sink>(
     alloc: Global,
@@ -130,7 +133,9 @@ pub fn follow_capture<R: Read, W: Sink>(
     ensures stops { IfErr result (StopsAs choice.report choice signal.now (R.remaining input.old) (⟦<Buffered<W> as Sink>⟧.contents out.old) (⟦<Buffered<W> as Sink>⟧.contents out.new) (pending out.old) (pending out.new)) }
 {
     match choice.report {
-        FollowReport::Readings => follow_readings(choice, signal, input, out),
+        FollowReport::Readings { from_idle, folded } => {
+            follow_readings(choice, from_idle, folded, signal, input, out)
+        }
         FollowReport::Audit { timing, strict } => {
             follow_remarks(alloc, choice, timing, strict, signal, input, out)
         }

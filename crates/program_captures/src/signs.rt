@@ -1,91 +1,24 @@
-//! What a capture looks like where it may have to be read otherwise, and what is said of it then.
+//! The wires of a capture, which are named where nothing was read on the first.
 
-use arrayvec::ArrayString;
-use capture_advice::{Widening, complete_by, widening_of};
+use capture_advice::complete_by;
 use capture_core::Capture;
 use capture_forms::CaptureForm;
-use line_wave::Edge;
 use std::alloc::{AllocError, Global};
-use std::fmt::Write;
 use text_core::{Sink, after, before, byte_at, first_line, first_word, len_before, put_all};
 
-/// No part of a bit is so short, in microseconds: what is shorter is chatter.
-const CHATTER: u64 = 100;
-
-/// The fewest pulses and gaps of chatter that are named.
-const MUCH: u64 = 8;
-
-/// What a capture looks like.
+/// What a capture looks like that may have another wire.
 #[derive(Clone, Copy, Debug)]
 pub struct Signs {
     /// Whether the wire has an edge.
     has_edge: bool,
-    /// Whether it is low for more than half of the time.
-    is_low: bool,
-    /// How many pulses and gaps are chatter.
-    chatter: u64,
-    /// The least margin that adds most complete readings.
-    widening: Widening,
     /// Whether the wire is the first of several, and nothing complete was read on it.
     is_other: bool,
 }
 
-/// What was counted of a line, edge by edge.
-#[derive(Clone, Copy, Debug)]
-struct EdgeCounts {
-    // the edge before, and whether there was one
-    last: u64,
-    has_begun: bool,
-    low: u64,
-    chatter: u64,
-}
-
-impl EdgeCounts {
-    const NONE: EdgeCounts = EdgeCounts {
-        last: 0,
-        has_begun: false,
-        low: 0,
-        chatter: 0,
-    };
-
-    fn edge(&mut self, edge: Edge) {
-        let width = edge.at.saturating_sub(self.last);
-        if self.has_begun && width < CHATTER {
-            self.chatter = self.chatter.saturating_add(1);
-        }
-        if !edge.low {
-            self.low = self.low.saturating_add(width);
-        }
-        self.last = edge.at;
-        self.has_begun = true;
-    }
-}
-
-fn counts_of(edges: &[Edge]) -> EdgeCounts {
-    let mut counts = EdgeCounts::NONE;
-    for edge in edges {
-        counts.edge(*edge);
-    }
-    counts
-}
-
-// For how long a line is low up to an end.
-fn low_until(counts: &EdgeCounts, edges: &[Edge], end: u64) -> u64 {
-    match edges.last() {
-        Some(edge) if edge.low => counts.low.saturating_add(end.saturating_sub(edge.at)),
-        _ => counts.low,
-    }
-}
-
 /// What a capture looks like; `is_first` of several wires of which none was named.
 pub fn signs_of(capture: &Capture, is_first: bool) -> Signs {
-    let edges = capture.edges();
-    let counts = counts_of(edges);
     Signs {
-        has_edge: !edges.is_empty(),
-        is_low: low_until(&counts, edges, capture.end()) > capture.end() / 2,
-        chatter: counts.chatter,
-        widening: widening_of(capture),
+        has_edge: !capture.edges().is_empty(),
         is_other: is_first && complete_by(capture, 0) == 0,
     }
 }
@@ -197,8 +130,17 @@ fn lack_of(has_edge: bool) -> &'static str {
     }
 }
 
-// Names the wires of a capture of which the first was read.
-fn name_wires<E: Sink>(alloc: Global, form: CaptureForm, signs: Signs, input: &[u8], err: &mut E) {
+/// Names the wires of a capture of which the first was read, where nothing complete was read on it.
+pub fn name_wires<E: Sink>(
+    alloc: Global,
+    form: CaptureForm,
+    signs: Signs,
+    input: &[u8],
+    err: &mut E,
+) {
+    if !signs.is_other {
+        return;
+    }
     let Ok((names, _)) = names_in(alloc, form, input) else {
         return;
     };
@@ -207,62 +149,4 @@ fn name_wires<E: Sink>(alloc: Global, form: CaptureForm, signs: Signs, input: &[
     let _ = put_all(err, b", --signal takes one of ");
     let _ = put_all(err, &names);
     let _ = put_all(err, b"\n");
-}
-
-fn name_chatter<E: Sink>(count: u64, err: &mut E) {
-    let shortest = CHATTER;
-    let mut text = ArrayString::<160>::new();
-    let _ = writeln!(
-        text,
-        "hdminet: {count} pulses and gaps are shorter than {shortest} microseconds, --glitch {shortest} passes over them"
-    );
-    let _ = put_all(err, text.as_bytes());
-}
-
-fn name_more<E: Sink>(widening: Widening, err: &mut E) {
-    let margin = widening.margin;
-    let more = widening.more;
-    let frames = if more == 1 { "frame" } else { "frames" };
-    let mut text = ArrayString::<80>::new();
-    let _ = writeln!(
-        text,
-        "hdminet: --margin {margin} reads {more} {frames} more"
-    );
-    let _ = put_all(err, text.as_bytes());
-}
-
-// Says that a line is low most of the time, and what reads it the other way round.
-fn name_low<E: Sink>(inverted: bool, err: &mut E) {
-    let text: &[u8] = if inverted {
-        b"hdminet: with --invert the line is low most of the time\n"
-    } else {
-        b"hdminet: the line is low most of the time, --invert reads it the other way round\n"
-    };
-    let _ = put_all(err, text);
-}
-
-/// Says what may have to be asked for otherwise of a capture that looks like this: another wire, `--invert` or its absence, and,
-/// where neither was given, `--glitch` and `--margin`.
-pub fn write_hints<E: Sink>(
-    alloc: Global,
-    form: CaptureForm,
-    inverted: bool,
-    glitch: u64,
-    margin: u64,
-    signs: Signs,
-    input: &[u8],
-    err: &mut E,
-) {
-    if signs.is_other {
-        name_wires(alloc, form, signs, input, err);
-    }
-    if signs.is_low {
-        name_low(inverted, err);
-    }
-    if signs.chatter >= MUCH && glitch == 0 {
-        name_chatter(signs.chatter, err);
-    }
-    if signs.widening.more > 0 && margin == 0 {
-        name_more(signs.widening, err);
-    }
 }

@@ -5,10 +5,10 @@ use Rattle.edid_core.specs.Bytes.{edid_bytes}
 use Rattle.edid_core.specs.declared.edid.Edid.{Edid}
 use Rattle.conversion_calls.specs.Passing.{IsPassedOn}
 use Rattle.conversion_calls.specs.declared.passing.Passing.{Passing}
-use Rattle.cli_words.specs.declared.choice.EdidReading.{EdidReading}
-use Rattle.cli_words.specs.declared.choice.EdidShape.TheVariants as shapes
-use Rattle.cli_words.specs.declared.choice.Source.{Source}
-use Rattle.cli_words.specs.declared.choice.View.{View}
+use Rattle.cli_choice.specs.declared.choice.EdidReading.{EdidReading}
+use Rattle.cli_choice.specs.declared.choice.EdidShape.TheVariants as shapes
+use Rattle.cli_choice.specs.declared.choice.Source.{Source}
+use Rattle.cli_choice.specs.declared.choice.View.{View}
 use Rattle.program_edids.specs.Edids.{IsRead, Made, ShowsAs, ShowsPassed, kept_count}
 
 -- what is held is what was put

@@ -11,13 +11,13 @@ use Rattle.conversion_fit.specs.Answers.{IsAnswer}
 use Rattle.edid_merge.specs.Speakers.{IsSpoken}
 use Rattle.edid_merge.specs.declared.table.Table.{Table}
 use Rattle.edid_as_source.specs.Count.{balance, with_count}
-use Rattle.cli_words.specs.declared.choice.Recipient.{Recipient}
-use Rattle.cli_words.specs.declared.choice.Recipient.TheVariants.{Port}
-use Rattle.cli_words.specs.declared.choice.EdidShape.{EdidShape}
-use Rattle.cli_words.specs.declared.choice.Sound.TheVariants.{Spoken}
-use Rattle.cli_words.specs.declared.choice.Source.TheVariants.{Pair}
-use Rattle.cli_words.specs.declared.choice.View.TheVariants.{Whole, Findings}
-use Rattle.cli_words.specs.declared.choice.Recipient.TheVariants as to
+use Rattle.cli_choice.specs.declared.choice.Recipient.{Recipient}
+use Rattle.cli_choice.specs.declared.choice.Recipient.TheVariants.{Port}
+use Rattle.cli_choice.specs.declared.choice.EdidShape.{EdidShape}
+use Rattle.cli_choice.specs.declared.choice.Sound.TheVariants.{Spoken}
+use Rattle.cli_choice.specs.declared.choice.Source.TheVariants.{Pair}
+use Rattle.cli_choice.specs.declared.choice.View.TheVariants.{Whole, Findings}
+use Rattle.cli_choice.specs.declared.choice.Recipient.TheVariants as to
 use Rattle.program_edids.specs.Edids.{IsGiven, IsRead, IsSpokenIn, Shows, ShowsCounted, ShowsJudged, ShowsOwn, in_port, origin_of}
 
 pub if_ok : {A E : Type 0} (r : Result A E) (P Q : A → Type 0) → ((x : A) → P x → Q x) → IfOk r P → IfOk r Q

@@ -13,6 +13,7 @@ use Rattle.rules_records.specs.Records.{findings_record}
 use Rattle.rules_check.specs.declared.rule.Origin.{Origin}
 use Rattle.rules_check.specs.declared.rule.Origin.TheVariants as origins
 use Rattle.conversion_calls.specs.Form.{form_text, hex_line}
+use Rattle.conversion_calls.specs.Programs.{c_text, xml_text}
 use Rattle.conversion_calls.specs.PassedOn.{Reports, address_line}
 use Rattle.conversion_calls.specs.Passing.{IsPassedOn}
 use Rattle.conversion_calls.specs.declared.form.EdidForm.{EdidForm}
@@ -34,26 +35,31 @@ use Rattle.program_edids.specs.declared.edid_fault.EdidFault.TheVariants as faul
 use Rattle.conversion_fit.specs.Answers.{IsAnswer}
 use Rattle.edid_merge.specs.Speakers.{IsSpoken}
 use Rattle.edid_as_source.specs.Count.{counted, first_count, with_count}
+use Rattle.edid_as_source.specs.Mend.{mended}
 use Rattle.edid_as_source.specs.Source.{as_source}
+use Rattle.edid_room.specs.Records.{room_text}
 use Rattle.edid_spelling.specs.Canonical.{canonical_text}
 use Rattle.record_core.specs.declared.cell.Form.{Form}
-use Rattle.cli_words.specs.declared.choice.EdidReading.{EdidReading}
-use Rattle.cli_words.specs.declared.choice.EdidReading.TheVariants.{Strict, Overridden, AsSource}
-use Rattle.cli_words.specs.declared.choice.Recipient.{Recipient}
-use Rattle.cli_words.specs.declared.choice.Recipient.TheVariants.{Own, At, Port}
-use Rattle.cli_words.specs.declared.choice.EdidShape.{EdidShape}
-use Rattle.cli_words.specs.declared.choice.EdidShape.TheVariants as shapes
-use Rattle.cli_words.specs.declared.choice.Sound.{Sound}
-use Rattle.cli_words.specs.declared.choice.Sound.TheVariants.{Kept, Amplified, Spoken}
-use Rattle.cli_words.specs.declared.choice.Source.{Source}
-use Rattle.cli_words.specs.declared.choice.Source.TheVariants as sources
-use Rattle.cli_words.specs.declared.choice.View.{View}
-use Rattle.cli_words.specs.declared.choice.View.TheVariants.{Whole, Meaning, Fields, Findings, Address, Readout}
+use Rattle.program_edids.specs.Elds.{IsEld}
+use Rattle.cli_choice.specs.declared.choice.EdidReading.{EdidReading}
+use Rattle.cli_choice.specs.declared.choice.EdidReading.TheVariants.{Strict, Overridden, AsSource, Mended, MendedOverridden}
+use Rattle.cli_choice.specs.declared.choice.Recipient.{Recipient}
+use Rattle.cli_choice.specs.declared.choice.Recipient.TheVariants.{Own, At, Port}
+use Rattle.cli_choice.specs.declared.choice.EdidShape.{EdidShape}
+use Rattle.cli_choice.specs.declared.choice.EdidShape.TheVariants as shapes
+use Rattle.cli_choice.specs.declared.choice.Sound.{Sound}
+use Rattle.cli_choice.specs.declared.choice.Sound.TheVariants.{Kept, Amplified, Spoken}
+use Rattle.cli_choice.specs.declared.choice.Source.{Source}
+use Rattle.cli_choice.specs.declared.choice.Source.TheVariants as sources
+use Rattle.cli_choice.specs.declared.choice.View.{View}
+use Rattle.cli_choice.specs.declared.choice.View.TheVariants.{Whole, Meaning, Fields, Findings, Address, Readout, Room, Eld}
 
 abbrev pub form_of : EdidShape → EdidForm
 form_of shapes.Text = forms.Text
 form_of shapes.Hex = forms.Hex
 form_of shapes.Bytes = forms.Bytes
+form_of shapes.C = forms.C
+form_of shapes.Xml = forms.Xml
 
 -- ---- the EDID for a device
 
@@ -106,6 +112,10 @@ IsAddress bytes text = (a : Phys) × Reports bytes (Some a) × (text ≡ address
 abbrev pub IsReadout : List ℕ → List ℕ → Type 0
 IsReadout bytes text = (e : Edid) × (edid_bytes e ≡ bytes) × (text ≡ readout_text bytes)
 
+-- the room in its blocks
+abbrev pub IsRoom : Form → List ℕ → List ℕ → Type 0
+IsRoom form bytes text = (e : Edid) × (edid_bytes e ≡ bytes) × (text ≡ room_text form e.base e.extensions.items)
+
 -- What is found of an EDID of these parts is written, and none of it is a failure.
 abbrev pub IsFound : Origin → Form → Base → List Ext → List ℕ → Type 0
 IsFound origin form base extensions text = (text ≡ findings_record form (findings origin base extensions)) × (some_failure (findings origin base extensions) ≡ false)
@@ -122,10 +132,16 @@ IsShown (Fields place) bytes text = (given : List ℕ) × IsGiven place bytes gi
 IsShown (Findings place form) bytes text = (given : List ℕ) × IsGiven place bytes given × IsFoundIn (origin_of place) form given text
 IsShown (Address place) bytes text = (given : List ℕ) × IsGiven place bytes given × IsAddress given text
 IsShown (Readout place) bytes text = (given : List ℕ) × IsGiven place bytes given × IsReadout given text
+IsShown (Eld place shape) bytes text = (given : List ℕ) × IsGiven place bytes given × IsEld shape given text
+IsShown (Room place form) bytes text = (given : List ℕ) × IsGiven place bytes given × IsRoom form given text
 
 -- The fields of the EDID of some bytes are written.
 abbrev pub ShowsFields : List ℕ → Option (List ℕ) → Option (List ℕ) → Type 0
 ShowsFields bytes old new = (text : List ℕ) × AreFields bytes text × Appends old new text
+
+-- and so is the room in its blocks
+abbrev pub ShowsRoom : Form → List ℕ → Option (List ℕ) → Option (List ℕ) → Type 0
+ShowsRoom form bytes old new = (text : List ℕ) × IsRoom form bytes text × Appends old new text
 
 abbrev pub ShowsFound : Origin → Form → Base → List Ext → Option (List ℕ) → Option (List ℕ) → Type 0
 ShowsFound origin form base extensions old new = (text : List ℕ) × IsFound origin form base extensions text × Appends old new text
@@ -151,18 +167,28 @@ IsRecounted count place bytes new = (given : List ℕ) × IsGiven place bytes gi
 abbrev pub IsShownCounted : ℕ → View → List ℕ → List ℕ → Type 0
 IsShownCounted count (Whole place shapes.Hex) bytes text = (new : List ℕ) × IsRecounted count place bytes new × (text ≡ hex_line new)
 IsShownCounted count (Whole place shapes.Bytes) bytes text = (new : List ℕ) × IsRecounted count place bytes new × (text ≡ new)
+IsShownCounted count (Whole place shapes.C) bytes text = (new : List ℕ) × IsRecounted count place bytes new × (text ≡ c_text new)
+IsShownCounted count (Whole place shapes.Xml) bytes text = (new : List ℕ) × IsRecounted count place bytes new × (text ≡ xml_text new)
 IsShownCounted count (Readout place) bytes text = (new : List ℕ) × IsRecounted count place bytes new × (text ≡ readout_text new)
 IsShownCounted count (Whole place shapes.Text) bytes text = IsShown (Whole place shapes.Text) bytes text
 IsShownCounted count (Meaning place) bytes text = IsShown (Meaning place) bytes text
 IsShownCounted count (Fields place) bytes text = IsShown (Fields place) bytes text
 IsShownCounted count (Findings place form) bytes text = (given : List ℕ) × IsGiven place bytes given × IsJudged (origin_of place) form count bytes given text
 IsShownCounted count (Address place) bytes text = IsShown (Address place) bytes text
+IsShownCounted count (Eld place shape) bytes text = IsShown (Eld place shape) bytes text
+IsShownCounted count (Room place form) bytes text = IsShown (Room place form) bytes text
 
--- A view of the bytes that an input gives, as they are read.
+-- the same of bytes with all blocks, where that override counts them
+abbrev pub IsShownOverridden : ℕ → View → List ℕ → List ℕ → Type 0
+IsShownOverridden count view given text = (bytes : List ℕ) × (counted given ≡ Ok bytes) × IsShownCounted count view bytes text
+
+-- A view of the bytes that an input gives, as they are read. An override that is mended counts, and the bytes keep the mended byte 126.
 abbrev pub IsShownAs : EdidReading → ℕ → View → List ℕ → List ℕ → Type 0
 IsShownAs Strict count view given text = IsShown view given text
-IsShownAs Overridden count view given text = (bytes : List ℕ) × (counted given ≡ Ok bytes) × IsShownCounted count view bytes text
+IsShownAs Overridden count view given text = IsShownOverridden count view given text
 IsShownAs AsSource count view given text = (bytes : List ℕ) × (as_source given ≡ Ok bytes) × IsShown view bytes text
+IsShownAs Mended count view given text = (bytes : List ℕ) × (mended false given ≡ Ok bytes) × IsShown view bytes text
+IsShownAs MendedOverridden count view given text = (bytes : List ℕ) × (mended true given ≡ Ok bytes) × IsShownOverridden (slice_index bytes 126) view bytes text
 
 -- what is passed on is written, and nothing else
 abbrev pub ShowsPassed : Passing → EdidShape → List ℕ → Option (List ℕ) → Option (List ℕ) → Type 0

@@ -1,2 +1,5 @@
+pub mod Compared
 pub mod Edids
+pub mod Elds
+pub mod Framed
 pub mod Told

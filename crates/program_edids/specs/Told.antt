@@ -3,8 +3,8 @@
 use Rattle.std.specs.Prelude.{ℕ, ◌==◌, nat_le, List, length, take, codes, Bool, not, ◌&&◌, ◌||◌, if◌then◌else◌, Option, Some, None}
 use Rattle.std.specs.List.{list_all}
 use Rattle.std.specs.Str.{bytes_eq}
-use Rattle.cli_words.specs.declared.choice.Source.{Source}
-use Rattle.cli_words.specs.declared.choice.Source.TheVariants.{Bytes, Dump, Words}
+use Rattle.cli_choice.specs.declared.choice.Source.{Source}
+use Rattle.cli_choice.specs.declared.choice.Source.TheVariants.{Bytes, Dump, Words}
 
 -- a tab, a line feed, a carriage return, or no control character, or one of a longer character
 abbrev pub is_text_byte : ℕ → Bool

@@ -1,5 +1,5 @@
 //! What is done with an EDID.
-ghost use Rattle.std.specs.Prelude.{◌≡◌, ℕ, List, OnOk, IfOk};
+ghost use Rattle.std.specs.Prelude.{◌≡◌, ◌≤◌, ℕ, List, OnOk, IfOk, length};
 ghost use Rattle.edid_core.specs.Bytes.{edid_bytes};
 ghost use Rattle.edid_core.specs.declared.edid.Edid.{Edid as EdidValue};
 ghost use Rattle.program_edids.specs.Edids.{IsGiven, IsRecounted, IsSpokenIn, Made, Shows, ShowsAs, ShowsCounted, ShowsPassed, at, form_of, in_port, origin_of};
@@ -10,30 +10,34 @@ ghost use Rattle.conversion_calls.specs.Passing.{IsPassedOn};
 ghost use Rattle.edid_ddc.specs.Readout.{readout_text};
 ghost use Rattle.conversion_calls.specs.Form.{hex_line};
 
-use crate::edid_described::write_own_fields;
+use crate::edid_described::{write_own_eld, write_own_fields, write_own_room};
 use crate::edid_fault::EdidFault;
 use crate::edid_given::{given_of, kept_count};
 use crate::edid_judged::{write_counted_rules, write_own_rules};
 use crate::edid_told::told;
 use arrayvec::ArrayVec;
-use cli_words::{EdidReading, EdidShape, Recipient, Sound, Source, View};
+use cli_choice::{EdidReading, EdidShape, EldShape, Recipient, Sound, Source, View};
 use conversion_calls::{
-    Destination as PassedTo, EdidForm, Passing, edid_to_text, write_address, write_passed_on,
+    Destination as PassedTo, EdidForm, Passing, edid_to_text, write_address, write_c,
+    write_passed_on, write_xml,
 };
 use conversion_notes::edid_to_meaning;
-use edid_as_source::{as_source, counted, with_count};
+use edid_as_source::{as_source, counted, mended, with_count};
 use edid_core::{AudioFrom, EdidError, read_parts};
 use edid_ddc::{Ddc, DdcError, write_readout};
 use edid_merge::with_speakers;
 use record_core::Form;
 use rules_check::Origin;
 use std::alloc::{AllocError, Global};
-use text_core::{Held, Phys, Piece, Sink, WriteFault, put_all, write_line};
+use text_core::{Held, Phys, Piece, Sink, WriteFault, byte_at, put_all, write_line};
 
 /// The fewest and the most bytes of an EDID.
 const LEAST: usize = 128;
 
 const MOST: usize = 512;
+
+/// Where a base block counts its extensions.
+const COUNT: usize = 126;
 
 fn form_of(shape: EdidShape) -> EdidForm
     ensures { result ≡ form_of shape }
@@ -42,6 +46,8 @@ fn form_of(shape: EdidShape) -> EdidForm
         EdidShape::Text => EdidForm::Text,
         EdidShape::Hex => EdidForm::Hex,
         EdidShape::Bytes => EdidForm::Bytes,
+        EdidShape::C => EdidForm::C,
+        EdidShape::Xml => EdidForm::Xml,
     }
 }
 
@@ -89,8 +95,8 @@ struct Blocks<'a> {
     bytes: &'a [u8],
 }
 
-// Writes bytes as one line of hex.
-fn write_hex_line<S: Sink>(bytes: &[u8], out: &mut S) -> Result<(), WriteFault>
+/// Writes bytes as one line of hex.
+pub(crate) fn write_hex_line<S: Sink>(bytes: &[u8], out: &mut S) -> Result<(), WriteFault>
     ensures { WrittenAll (S.contents out.old) (S.contents out.new) (S.is_stuck out.old) (S.is_stuck out.new) (hex_line bytes.now) result }
 {
     match write_line(out, &[Piece::Hex(bytes), Piece::Text("\n")]) {
@@ -119,6 +125,32 @@ fn write_as_bytes<W: Sink>(bytes: &[u8], out: &mut W) -> Result<(), EdidFault>
     Ok(put_all(out, bytes)?)
 }
 
+// That some bytes are no more than those of an EDID.
+fn are_few(bytes: &[u8]) -> Result<(), EdidFault>
+    ensures { OnOk result (length bytes.now ≤ 512) }
+{
+    if bytes.len() > MOST {
+        return Err(EdidFault::Edid(EdidError::Length));
+    }
+    Ok(())
+}
+
+fn write_as_c<W: Sink>(bytes: &[u8], out: &mut W) -> Result<(), EdidFault>
+    ensures { OnOk result (Shows (View.Whole Recipient.Own EdidShape.C) bytes.now (W.contents out.old) (W.contents out.new)) }
+{
+    is_edid(bytes)?;
+    are_few(bytes)?;
+    Ok(write_c(bytes, out)?)
+}
+
+fn write_as_xml<W: Sink>(bytes: &[u8], out: &mut W) -> Result<(), EdidFault>
+    ensures { OnOk result (Shows (View.Whole Recipient.Own EdidShape.Xml) bytes.now (W.contents out.old) (W.contents out.new)) }
+{
+    is_edid(bytes)?;
+    are_few(bytes)?;
+    Ok(write_xml(bytes, out)?)
+}
+
 // Writes the EDID of some bytes.
 fn write_own<W: Sink>(bytes: &[u8], shape: EdidShape, out: &mut W) -> Result<(), EdidFault>
     ensures { OnOk result (Shows (View.Whole Recipient.Own shape) bytes.now (W.contents out.old) (W.contents out.new)) }
@@ -127,6 +159,8 @@ fn write_own<W: Sink>(bytes: &[u8], shape: EdidShape, out: &mut W) -> Result<(),
         EdidShape::Text => write_as_text(bytes, out),
         EdidShape::Hex => write_as_hex(bytes, out),
         EdidShape::Bytes => write_as_bytes(bytes, out),
+        EdidShape::C => write_as_c(bytes, out),
+        EdidShape::Xml => write_as_xml(bytes, out),
     }
 }
 
@@ -287,6 +321,32 @@ impl Blocks<'_> {
         write_own_fields(given.as_slice(), out)
     }
 
+    // Writes the room in the EDID's blocks, for a device.
+    fn write_rooms<W: Sink>(
+        self,
+        place: Recipient,
+        form: Form,
+        out: &mut W,
+    ) -> Result<(), EdidFault>
+        ensures { OnOk result (Shows (View.Room place form) self.entry.bytes.now (W.contents out.old) (W.contents out.new)) }
+    {
+        let given = given_to(self.alloc, place, self.bytes)?;
+        write_own_room(form, given.as_slice(), out)
+    }
+
+    // Writes what a sound driver makes of the EDID, for a device.
+    fn write_sound<W: Sink>(
+        self,
+        place: Recipient,
+        shape: EldShape,
+        out: &mut W,
+    ) -> Result<(), EdidFault>
+        ensures { OnOk result (Shows (View.Eld place shape) self.entry.bytes.now (W.contents out.old) (W.contents out.new)) }
+    {
+        let given = given_to(self.alloc, place, self.bytes)?;
+        write_own_eld(shape, given.as_slice(), out)
+    }
+
     // Writes the address in the EDID, for a device.
     fn write_place<W: Sink>(self, place: Recipient, out: &mut W) -> Result<(), EdidFault>
         ensures { OnOk result (Shows (View.Address place) self.entry.bytes.now (W.contents out.old) (W.contents out.new)) }
@@ -316,6 +376,8 @@ impl Blocks<'_> {
             View::Fields(place) => self.write_fields(place, out),
             View::Address(place) => self.write_place(place, out),
             View::Readout(place) => self.write_ddc(place, out),
+            View::Room(place, form) => self.write_rooms(place, form, out),
+            View::Eld(place, shape) => self.write_sound(place, shape, out),
         }
     }
 
@@ -356,6 +418,36 @@ impl Blocks<'_> {
     {
         let mended = self.recounted(count, place)?;
         Ok(put_all(out, mended.as_slice())?)
+    }
+
+    // Writes those bytes as an array of C.
+    fn write_counted_c<W: Sink>(
+        self,
+        count: u8,
+        place: Recipient,
+        out: &mut W,
+    ) -> Result<(), EdidFault>
+        ensures { OnOk result (ShowsCounted count (View.Whole place EdidShape.C) self.entry.bytes.now (W.contents out.old) (W.contents out.new)) }
+    {
+        let mended = self.recounted(count, place)?;
+        let bytes = mended.as_slice();
+        are_few(bytes)?;
+        Ok(write_c(bytes, out)?)
+    }
+
+    // Writes those bytes as XML.
+    fn write_counted_xml<W: Sink>(
+        self,
+        count: u8,
+        place: Recipient,
+        out: &mut W,
+    ) -> Result<(), EdidFault>
+        ensures { OnOk result (ShowsCounted count (View.Whole place EdidShape.Xml) self.entry.bytes.now (W.contents out.old) (W.contents out.new)) }
+    {
+        let mended = self.recounted(count, place)?;
+        let bytes = mended.as_slice();
+        are_few(bytes)?;
+        Ok(write_xml(bytes, out)?)
     }
 
     // Writes what a device reads of them over DDC.
@@ -405,6 +497,8 @@ impl Blocks<'_> {
         match shape {
             EdidShape::Hex => self.write_counted_hex(count, place, out),
             EdidShape::Bytes => self.write_counted_bytes(count, place, out),
+            EdidShape::C => self.write_counted_c(count, place, out),
+            EdidShape::Xml => self.write_counted_xml(count, place, out),
             EdidShape::Text => self.write_whole(place, EdidShape::Text, out),
         }
     }
@@ -421,6 +515,8 @@ impl Blocks<'_> {
             View::Fields(place) => self.write_fields(place, out),
             View::Address(place) => self.write_place(place, out),
             View::Readout(place) => self.write_counted_ddc(count, place, out),
+            View::Room(place, form) => self.write_rooms(place, form, out),
+            View::Eld(place, shape) => self.write_sound(place, shape, out),
         }
     }
 
@@ -456,6 +552,43 @@ impl Blocks<'_> {
         }
     }
 
+    // Writes what is asked for of bytes with right sums and a right count.
+    fn show_mended<W: Sink>(self, count: u8, view: View, out: &mut W) -> Result<(), EdidFault>
+        ensures { OnOk result (ShowsAs EdidReading.Mended count view self.entry.bytes.now (W.contents out.old) (W.contents out.new)) }
+    {
+        match mended(false, self.bytes) {
+            Ok(bytes) => {
+                let read = Blocks {
+                    bytes: bytes.as_slice(),
+                    ..self
+                };
+                read.show(view, out)
+            }
+            Err(error) => Err(EdidFault::Edid(error)),
+        }
+    }
+
+    // Writes what is asked for of bytes with right sums, in which the mended override counts the extensions.
+    fn show_mended_overridden<W: Sink>(
+        self,
+        count: u8,
+        view: View,
+        out: &mut W,
+    ) -> Result<(), EdidFault>
+        ensures { OnOk result (ShowsAs EdidReading.MendedOverridden count view self.entry.bytes.now (W.contents out.old) (W.contents out.new)) }
+    {
+        match mended(true, self.bytes) {
+            Ok(bytes) => {
+                let read = Blocks {
+                    bytes: bytes.as_slice(),
+                    ..self
+                };
+                read.show_overridden(byte_at(bytes.as_slice(), COUNT), view, out)
+            }
+            Err(error) => Err(EdidFault::Edid(error)),
+        }
+    }
+
     // Writes what is asked for of bytes, as they are read.
     fn show_as<W: Sink>(
         self,
@@ -470,6 +603,8 @@ impl Blocks<'_> {
             EdidReading::Strict => self.show(view, out),
             EdidReading::Overridden => self.show_overridden(count, view, out),
             EdidReading::AsSource => self.show_as_source(count, view, out),
+            EdidReading::Mended => self.show_mended(count, view, out),
+            EdidReading::MendedOverridden => self.show_mended_overridden(count, view, out),
         }
     }
 }

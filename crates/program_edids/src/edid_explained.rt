@@ -1,11 +1,11 @@
 //! What is said of EDIDs on standard error, beside what is written of them.
-use crate::edid::{given_to, origin_of};
-use crate::edid_fault::EdidFault;
+use crate::edid::origin_of;
 use crate::edid_given::{given_of, halves, kept_count};
+use crate::edid_read::bytes_for;
 use crate::edid_told::told;
 use arrayvec::ArrayString;
-use cli_words::{CommandChoice, EdidReading, Recipient, Source};
-use edid_as_source::{as_source, counted, write_notes};
+use cli_choice::{CommandChoice, EdidReading, Recipient, Source};
+use edid_as_source::{mended, write_mend_notes, write_notes};
 use edid_dump::{dump_count, nth_dump_bytes};
 use edid_merge::{MergeError, Table, Unfit, write_merge_notes};
 use rules_explain::{explain_counted, explain_findings, explain_no_hdmi};
@@ -13,30 +13,16 @@ use std::alloc::{AllocError, Global};
 use std::fmt::Write;
 use text_core::{Sink, put_all};
 
-// The bytes that the strict reader is given of some bytes.
-fn taken(alloc: Global, reading: EdidReading, given: &[u8]) -> Result<Vec<u8>, EdidFault> {
-    let mended = match reading {
-        EdidReading::Strict => return Ok(given.to_vec(alloc)?),
-        EdidReading::Overridden => counted(given),
-        EdidReading::AsSource => as_source(given),
-    };
-    match mended {
-        Ok(bytes) => Ok(bytes.as_slice().to_vec(alloc)?),
-        Err(error) => Err(EdidFault::Edid(error)),
+// The count that byte 126 keeps, where the HDMI Forum's override counts the extensions.
+fn count_beside(reading: EdidReading, source: Source, given: &[u8]) -> Option<u8> {
+    match reading {
+        EdidReading::Overridden => Some(kept_count(source, given)),
+        EdidReading::MendedOverridden => match mended(true, given) {
+            Ok(bytes) => Some(kept_count(source, bytes.as_slice())),
+            Err(_) => None,
+        },
+        EdidReading::Strict | EdidReading::AsSource | EdidReading::Mended => None,
     }
-}
-
-// The bytes of the EDID of an input, for a device.
-fn bytes_for(
-    alloc: Global,
-    source: Source,
-    reading: EdidReading,
-    place: Recipient,
-    input: &[u8],
-) -> Result<Vec<u8>, EdidFault> {
-    let given = given_of(alloc, source, input)?;
-    let bytes = taken(alloc, reading, &given)?;
-    given_to(alloc, place, &bytes)
 }
 
 /// What each rule asks that the EDID of an input breaks, for a device, and the values at fault. Of no EDID there is nothing.
@@ -51,12 +37,13 @@ pub fn explain_rules(
     let Ok(bytes) = bytes_for(alloc, source, reading, place, input) else {
         return Ok(String::new(alloc));
     };
-    match (reading, given_of(alloc, source, input)) {
-        (EdidReading::Overridden, Ok(given)) => {
-            let count = kept_count(source, &given);
-            explain_counted(alloc, origin_of(place), count, &bytes)
-        }
-        _ => explain_findings(alloc, origin_of(place), &bytes),
+    let count = match given_of(alloc, source, input) {
+        Ok(given) => count_beside(reading, source, &given),
+        Err(_) => None,
+    };
+    match count {
+        Some(count) => explain_counted(alloc, origin_of(place), count, &bytes),
+        None => explain_findings(alloc, origin_of(place), &bytes),
     }
 }
 
@@ -156,18 +143,55 @@ fn name_mended<E: Sink>(alloc: Global, source: Source, input: &[u8], err: &mut E
     }
 }
 
-/// Writes which of several EDIDs of a dump is read, what of a receiver's product has no place in what it answers with, and what a
-/// source mends and passes over.
+// What of an input is set right.
+fn name_set_right<E: Sink>(
+    alloc: Global,
+    overridden: bool,
+    source: Source,
+    input: &[u8],
+    err: &mut E,
+) {
+    if let Ok(given) = given_of(alloc, source, input) {
+        let _ = write_mend_notes(overridden, &given, err);
+    }
+}
+
+// What is mended of an input, and passed over, as it is read.
+fn name_changed<E: Sink>(
+    alloc: Global,
+    reading: EdidReading,
+    source: Source,
+    input: &[u8],
+    err: &mut E,
+) {
+    match reading {
+        EdidReading::Strict | EdidReading::Overridden => {}
+        EdidReading::AsSource => name_mended(alloc, source, input, err),
+        EdidReading::Mended => name_set_right(alloc, false, source, input, err),
+        EdidReading::MendedOverridden => name_set_right(alloc, true, source, input, err),
+    }
+}
+
+/// Writes which of several EDIDs of a dump is read, what of a receiver's product has no place in what it answers with, what a
+/// source mends and passes over, and what is set right.
 pub fn name_read<E: Sink>(alloc: Global, choice: CommandChoice, input: &[u8], err: &mut E) {
-    let CommandChoice::Edid {
-        source,
-        reading,
-        ..
-    } = choice
-    else {
-        return;
+    let (source, reading) = match choice {
+        CommandChoice::Edid {
+            source,
+            reading,
+            ..
+        }
+        | CommandChoice::InfoFrame {
+            source,
+            reading,
+            ..
+        } => (told(source, input), reading),
+        CommandChoice::EdidDiff { dumps: true, .. } => {
+            name_two(input, err);
+            return;
+        }
+        _ => return,
     };
-    let source = told(source, input);
     match source {
         Source::Dump { nth } => name_one(nth, input, err),
         Source::Pair { dumps: true, table } => name_dumps(&table, input, err),
@@ -177,7 +201,5 @@ pub fn name_read<E: Sink>(alloc: Global, choice: CommandChoice, input: &[u8], er
         } => name_halves(&table, input, err),
         Source::Bytes | Source::Text | Source::Words => {}
     }
-    if let EdidReading::AsSource = reading {
-        name_mended(alloc, source, input, err);
-    }
+    name_changed(alloc, reading, source, input, err);
 }

@@ -2,7 +2,9 @@
 use conversion_calls::{EdidToTextError, PassOnError};
 use edid_core::EdidError;
 use edid_dump::DumpError;
+use edid_eld::EldError;
 use edid_merge::{MergeError, SpeakersError};
+use infoframe_tables::InfoFrameError;
 use std::alloc::AllocError;
 use text_core::WriteFault;
 use thiserror::Error;
@@ -31,6 +33,24 @@ pub enum EdidFault {
     Merge(MergeError),
     #[error("edid: {0}")]
     Speakers(SpeakersError),
+    /// The bytes are no ELD.
+    #[error("eld: {0}")]
+    Eld(#[from] EldError),
+    /// The first of two that are compared is no EDID.
+    #[error("diff: first: {0}")]
+    First(EdidError),
+    /// The second is none.
+    #[error("diff: second: {0}")]
+    Second(EdidError),
+    /// Two EDIDs differ. All of where they do was written.
+    #[error("the EDIDs differ")]
+    Differ,
+    /// A text is no InfoFrame.
+    #[error("infoframe: {0}")]
+    InfoFrame(#[from] InfoFrameError),
+    /// An InfoFrame is not as it has to be, or not offered. All of what it says was written.
+    #[error("the InfoFrame is none that the display offers")]
+    NotOffered,
     /// A rule that an EDID breaks is a failure. All rules that it breaks were written.
     #[error("edid: a rule fails")]
     RuleFails,

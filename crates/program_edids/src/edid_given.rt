@@ -7,7 +7,7 @@ ghost use Rattle.edid_texts.specs.Lines.{edid_text};
 ghost use Rattle.program_edids.specs.Edids.{IsFaultOf, IsRead, IsTextFault, display_half, kept_count, own_half};
 
 use crate::edid_fault::EdidFault;
-use cli_words::Source;
+use cli_choice::Source;
 use conversion_fit::merge_bytes;
 use conversion_notes::plain_text;
 use edid_as_source::first_count;

@@ -3,7 +3,7 @@ ghost use Rattle.std.specs.Prelude.{◌≡◌, take};
 ghost use Rattle.std.specs.List.{list_all};
 ghost use Rattle.program_edids.specs.Told.{detected, is_text, is_text_byte, told};
 
-use cli_words::Source;
+use cli_choice::Source;
 
 /// The keyword that begins the text of each EDID.
 const KEYWORD: &[u8] = b"edid ";

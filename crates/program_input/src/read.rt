@@ -3,7 +3,7 @@ ghost use Rattle.std.specs.Prelude.{IfOk};
 ghost use Rattle.program_input.specs.Read.{IsAllOf};
 
 use crate::error::InputError;
-use cli_words::{CommandChoice, MonChoice, Objects};
+use cli_choice::{CapturePair, CommandChoice, MonChoice, Objects, SummaryChoice};
 use std::alloc::Global;
 use std::io::Read;
 
@@ -20,10 +20,14 @@ const CAPTURE_LIMIT: usize = 67_108_864;
 pub fn limit_of(choice: CommandChoice) -> usize {
     match choice {
         CommandChoice::Mon(MonChoice { form: Some(_), .. })
+        | CommandChoice::Summary(SummaryChoice { form: Some(_), .. })
+        | CommandChoice::CaptureDiff(CapturePair { form: Some(_), .. })
         | CommandChoice::CapturedLine { form: Some(_), .. }
         | CommandChoice::CheckCapture { form: Some(_), .. }
         | CommandChoice::Json(Objects::CaptureTest { form: Some(_), .. }) => CAPTURE_LIMIT,
         CommandChoice::Mon(MonChoice { form: None, .. })
+        | CommandChoice::Summary(SummaryChoice { form: None, .. })
+        | CommandChoice::CaptureDiff(CapturePair { form: None, .. })
         | CommandChoice::CapturedLine { form: None, .. }
         | CommandChoice::CheckCapture { form: None, .. }
         | CommandChoice::Json(
@@ -40,6 +44,9 @@ pub fn limit_of(choice: CommandChoice) -> usize {
         | CommandChoice::Asm
         | CommandChoice::Dis { .. }
         | CommandChoice::Lay { .. }
+        | CommandChoice::EdidDiff { .. }
+        | CommandChoice::InfoFrame { .. }
+        | CommandChoice::Eld { .. }
         | CommandChoice::Edid { .. } => LIMIT,
     }
 }

@@ -4,9 +4,13 @@
 mod laws;
 mod script;
 mod session;
+mod step;
 mod topology;
 
-pub use laws::{script_rows_are_apart, session_rows_are_apart, topology_rows_are_apart};
+pub use laws::{
+    script_rows_are_apart, session_rows_are_apart, step_rows_are_apart, topology_rows_are_apart,
+};
 pub use script::{SCRIPT, ScriptVerb};
 pub use session::{SESSION, SessionVerb};
+pub use step::{STEPS, StepVerb};
 pub use topology::{TOPOLOGY, TopologyVerb};

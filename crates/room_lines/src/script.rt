@@ -20,9 +20,8 @@ pub enum ScriptVerb {
     End,
 }
 
-/// Each form, with what stands at its places: a row for each key. What stands after the name of `send` is `attempts N` or
-/// nothing, and a frame. Where a word has a cause that the caller tells, which comes before that of the time, the time is
-/// `LateTime`.
+/// Each form, with what stands at its places: a row for each key. Where one of several may stand, `|` parts them. Where a word
+/// has a cause that the caller tells, which comes before that of the time, the time is `LateTime`.
 pub const SCRIPT: &[(ScriptVerb, &[(Slot, &str)])] = &[
     (
         ScriptVerb::Press(KeyWord::Play),
@@ -365,7 +364,7 @@ pub const SCRIPT: &[(ScriptVerb, &[(Slot, &str)])] = &[
             (Slot::LateTime, "T"),
             (Slot::Word, "send"),
             (Slot::Text, "NAME"),
-            (Slot::Rest, "FRAME"),
+            (Slot::Rest, "FRAME|hex HEX|attempts N FRAME"),
         ],
     ),
     (

@@ -9,7 +9,7 @@ use Rattle.device_features.specs.declared.key_word.KeyWord.TheVariants as key_wo
 use Rattle.text_core.specs.Number.{number_of}
 use Rattle.text_core.specs.declared.at.AtWord.{AtWord}
 use Rattle.text_forms.specs.Limits.{at_most, latest}
-use Rattle.text_forms.specs.Forms.{Meaning, Place, fault_in, fits, is_itself, is_rest, is_whole, late_time_at, late_time_of_meaning, meaning_of, meanings_of, read_by, time_at, time_of_meaning, turn_of, unless, value_or}
+use Rattle.text_forms.specs.Forms.{Meaning, Place, fault_in, fits, is_itself, is_rest, is_whole, may_be, late_time_at, late_time_of_meaning, meaning_of, meanings_of, read_by, time_at, time_of_meaning, turn_of, unless, value_or}
 use Rattle.text_forms.specs.Forms.Meaning.{Itself, Number}
 use Rattle.text_forms.specs.declared.form.Slot.{Slot}
 use Rattle.text_forms.specs.declared.form.Slot.TheVariants as slots
@@ -67,9 +67,9 @@ or_second : (a b : Bool) → a ≡ false → (a || b) ≡ true → b ≡ true
 or_second true b e h = cc
 or_second false b e h = h
 
-if_true : (a b : Bool) → a ≡ true → (if a then b else true) ≡ true → b ≡ true
-if_true true b e h = h
-if_true false b e h = cc
+if_true : (a b c : Bool) → a ≡ true → (if a then b else c) ≡ true → b ≡ true
+if_true true b c e h = h
+if_true false b c e h = cc
 
 not_both : (a b : Bool) → a ≡ true → (a && b) ≡ false → b ≡ false
 not_both true b e h = h
@@ -95,6 +95,7 @@ time_slot slots.Ports late w h = cc
 time_slot slots.Level late w h = cc
 time_slot slots.Switch late w h = cc
 time_slot slots.Kind late w h = cc
+time_slot slots.Opcode late w h = cc
 time_slot slots.Text late w h = cc
 time_slot slots.Rest late w h = cc
 
@@ -145,7 +146,7 @@ none_whole p ps h = cc
 first_is : (p : Place) (x first : List ℕ) → is_itself p.0 ≡ true → bytes_eq p.1 first ≡ true → fits p x ≡ true → x ≡ first
 first_is p x first itself same fit =
     let right : p.1 ≡ first = (bytes_eq-Decides p.1 first).0 same in
-    let left : p.1 ≡ x = (bytes_eq-Decides p.1 x).0 (if_true (is_itself p.0) (bytes_eq p.1 x) itself fit) in
+    let left : p.1 ≡ x = (bytes_eq-Decides p.1 x).0 (if_true (is_itself p.0) (bytes_eq p.1 x) (may_be p.0 x) itself fit) in
     sym left ∙ right
 
 begun : (verb : ScriptVerb) (form : List Place) (words : List (List ℕ)) (values : List Meaning) (first : List ℕ) (late : Bool) → begins_by first late form ≡ true → is_whole form words ≡ true

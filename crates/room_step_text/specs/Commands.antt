@@ -1,42 +1,28 @@
--- Texts of steps (own): lines `edge`, `round`, `until opcode XX`, `until device NAME`, `until break`, `show NAME`. Of a line
--- that is none, the word at fault is given: its number from 0; where one is missing, the number that it would have. A name is
--- looked for where the words are as many as they should be.
-use Rattle.std.specs.Prelude.{◌≡◌, ℕ, ◌+◌, if◌then◌else◌, codes, List, [], ◌∷◌, ◌++◌, Option, Some, None, Result, Ok, Err}
-use Rattle.std.specs.Str.{bytes_eq}
-use Rattle.text_core.specs.Hex.{hex_byte}
+-- Texts of steps (own), by the forms of room_lines. Of a line that has none of them, the word at fault is given: its number from 0;
+-- where one is missing, the number that it would have. A name is looked for where the line has a form.
+use Rattle.std.specs.Prelude.{◌≡◌, ℕ, ◌+◌, if◌then◌else◌, List, [], ◌∷◌, ◌++◌, Option, Some, None, Result, Ok, Err}
 use Rattle.edid_tree.specs.Node.{Node}
 use Rattle.edid_tree.specs.Tree.{device_named}
 use Rattle.text_core.specs.Lines.{lines_of, is_skipped}
 use Rattle.text_core.specs.Words.{words_of}
+use Rattle.text_forms.specs.Forms.{Meaning, Said, byte_at, line_of, text_at}
+use Rattle.room_lines.specs.Step.{step_rows}
+use Rattle.room_lines.specs.declared.step.StepVerb.{StepVerb}
+use Rattle.room_lines.specs.declared.step.StepVerb.TheVariants as verbs
 use Rattle.room_step_text.specs.declared.break_at.Break.TheVariants.{Opcode, Device, AnyBreak}
 use Rattle.room_step_text.specs.declared.commands.StepCommand.{StepCommand}
 use Rattle.room_step_text.specs.declared.commands.StepCommand.TheVariants.{Edge, Round, Until, Show}
 use Rattle.room_step_text.specs.declared.commands.CommandsError.{CommandsError}
 use Rattle.room_step_text.specs.declared.commands.CommandsError.TheVariants.{At, Memory}
 
--- a step that so many words say, where none stands after them
-abbrev pub command_alone : ℕ → List (List ℕ) → StepCommand → Result StepCommand ℕ
-command_alone count [] command = Ok command
-command_alone count (word ∷ words) command = Err count
+-- what words say by the table of forms
+unfoldable pub step_said : List (List ℕ) → Said StepVerb
+step_said words = line_of step_rows words
 
--- the words after `until opcode`
-abbrev pub opcode_by : Option ℕ → List (List ℕ) → Result StepCommand ℕ
-opcode_by None words = Err 2
-opcode_by (Some opcode) words = command_alone 3 words (Until (Opcode opcode))
-
-abbrev pub until_opcode : List (List ℕ) → Result StepCommand ℕ
-until_opcode [] = Err 2
-until_opcode (word ∷ words) = opcode_by (hex_byte word) words
-
--- the device that the one word after so many names
+-- the device that the word of this number names
 abbrev pub device_by : ℕ → Option ℕ → Result ℕ ℕ
 device_by word None = Err word
 device_by word (Some device) = Ok device
-
-abbrev pub device_after : List Node → ℕ → List (List ℕ) → Result ℕ ℕ
-device_after tree count [] = Err count
-device_after tree count (name ∷ []) = device_by count (device_named tree name)
-device_after tree count (name ∷ word ∷ words) = Err (count + 1)
 
 abbrev pub until_by : Result ℕ ℕ → Result StepCommand ℕ
 until_by (Ok device) = Ok (Until (Device device))
@@ -46,26 +32,21 @@ abbrev pub show_by : Result ℕ ℕ → Result StepCommand ℕ
 show_by (Ok device) = Ok (Show device)
 show_by (Err word) = Err word
 
--- the words after `until`
-abbrev pub until_of : List Node → List (List ℕ) → Result StepCommand ℕ
-until_of tree [] = Err 1
-until_of tree (what ∷ words) =
-    if bytes_eq what (codes "opcode") then until_opcode words
-    else if bytes_eq what (codes "device") then until_by (device_after tree 2 words)
-    else if bytes_eq what (codes "break") then command_alone 2 words (Until AnyBreak)
-    else Err 1
+-- what the values of a form ask for, or the word that names no device
+abbrev pub command_said : List Node → StepVerb → List Meaning → Result StepCommand ℕ
+command_said tree verbs.Edge values = Ok Edge
+command_said tree verbs.Round values = Ok Round
+command_said tree verbs.UntilOpcode values = Ok (Until (Opcode (byte_at values 2)))
+command_said tree verbs.UntilDevice values = until_by (device_by 2 (device_named tree (text_at values 2)))
+command_said tree verbs.UntilBreak values = Ok (Until AnyBreak)
+command_said tree verbs.Show values = show_by (device_by 1 (device_named tree (text_at values 1)))
 
-abbrev pub command_of_words : List Node → List (List ℕ) → Result StepCommand ℕ
-command_of_words tree [] = Err 0
-command_of_words tree (verb ∷ words) =
-    if bytes_eq verb (codes "edge") then command_alone 1 words Edge
-    else if bytes_eq verb (codes "round") then command_alone 1 words Round
-    else if bytes_eq verb (codes "until") then until_of tree words
-    else if bytes_eq verb (codes "show") then show_by (device_after tree 1 words)
-    else Err 0
+abbrev pub command_by : List Node → Said StepVerb → Result StepCommand ℕ
+command_by tree (Err fault) = Err fault.word
+command_by tree (Ok said) = command_said tree said.0 said.1
 
 abbrev pub command_of : List Node → List ℕ → Result StepCommand ℕ
-command_of tree line = command_of_words tree (words_of line)
+command_of tree line = command_by tree (step_said (words_of line))
 
 -- the first line at fault, and its word
 pub record LineFault : Type 0 where

@@ -1,13 +1,16 @@
 //! Texts of steps.
-ghost use Rattle.std.specs.Prelude.{◌≡◌, ◌+◌, ◌<◌, IfOk, IfErr, Ok};
-ghost use Rattle.std.specs.Option.{option_copied};
-ghost use Rattle.text_core.specs.Words.{words_after};
-ghost use Rattle.room_step_text.specs.Commands.{IsFault, command_alone, command_of, commands_of, device_after, opcode_by, show_by, until_by, until_of, until_opcode};
+ghost use Rattle.std.specs.Prelude.{◌≡◌, IfOk, IfErr, Ok};
+ghost use Rattle.edid_tree.specs.Tree.{device_named};
+ghost use Rattle.text_core.specs.Words.{words_of};
+ghost use Rattle.text_forms.specs.Forms.{said, values_of};
+ghost use Rattle.room_step_text.specs.Commands.{IsFault, command_of, command_said, commands_of, device_by, show_by, step_said, until_by};
 
 use crate::break_at::Break;
 use edid_tree::Tree;
+use room_lines::{STEPS, StepVerb};
 use std::alloc::{AllocFailed, Global};
-use text_core::{first_line, first_word, hex_byte, is_skipped};
+use text_core::{AtWord, first_line, is_skipped};
+use text_forms::{FormLine, LineCause, read_line};
 
 /// A step that is asked for.
 #[derive(Clone, Copy, Debug, PartialEq, Eq)]
@@ -42,100 +45,53 @@ impl<T: Drop> From<AllocFailed<T>> for CommandsError {
     }
 }
 
-// A step that so many words say, where none is left after them.
-fn command_alone(
-    count: usize,
-    rest: Option<&[u8]>,
-    command: StepCommand,
-) -> Result<StepCommand, usize>
-    ensures { result ≡ command_alone count (words_after (option_copied rest.entry)) command }
+// The form of a line, and its values.
+#[tactic(auto, unfolding(crate::specs::Commands::step_said))]
+fn step_said(line: &[u8]) -> Result<FormLine<'_, StepVerb>, AtWord<LineCause>>
+    ensures { said result ≡ step_said (words_of line.now) }
 {
-    match rest {
-        None => Ok(command),
-        Some(rest) => {
-            let (_word, _others) = first_word(rest);
-            Err(count)
-        }
+    read_line(STEPS, line)
+}
+
+// The device that the word of this number names.
+fn device_in(tree: &Tree<15>, word: usize, name: &[u8]) -> Result<usize, usize>
+    ensures { result ≡ device_by word (device_named tree.now name.now) }
+{
+    match tree.device_named(name) {
+        None => Err(word),
+        Some(device) => Ok(device),
     }
 }
 
-fn opcode_by(opcode: Option<u8>, rest: Option<&[u8]>) -> Result<StepCommand, usize>
-    ensures { result ≡ opcode_by opcode (words_after (option_copied rest.entry)) }
+fn until_device(tree: &Tree<15>, name: &[u8]) -> Result<StepCommand, usize>
+    ensures { result ≡ until_by (device_by 2 (device_named tree.now name.now)) }
 {
-    match opcode {
-        None => Err(2),
-        Some(opcode) => command_alone(3, rest, StepCommand::Until(Break::Opcode(opcode))),
-    }
-}
-
-// The words after `until opcode`.
-fn until_opcode(rest: Option<&[u8]>) -> Result<StepCommand, usize>
-    ensures { result ≡ until_opcode (words_after (option_copied rest.entry)) }
-{
-    let Some(rest) = rest else {
-        return Err(2);
-    };
-    let (word, rest) = first_word(rest);
-    opcode_by(hex_byte(word), rest)
-}
-
-// The device that the one word after so many names.
-fn device_after(tree: &Tree<15>, count: usize, rest: Option<&[u8]>) -> Result<usize, usize>
-    requires few { count < 255 }
-    ensures { result ≡ device_after tree.now count (words_after (option_copied rest.entry)) }
-{
-    let Some(rest) = rest else {
-        return Err(count);
-    };
-    let (name, rest) = first_word(rest);
-    match rest {
-        None => match tree.device_named(name) {
-            None => Err(count),
-            Some(device) => Ok(device),
-        },
-        Some(rest) => {
-            let (_word, _others) = first_word(rest);
-            Err(count + 1)
-        }
-    }
-}
-
-// The words after `until device`.
-fn until_device(tree: &Tree<15>, rest: Option<&[u8]>) -> Result<StepCommand, usize>
-    ensures { result ≡ until_by (device_after tree.now 2 (words_after (option_copied rest.entry))) }
-{
-    match device_after(tree, 2, rest) {
+    match device_in(tree, 2, name) {
         Ok(device) => Ok(StepCommand::Until(Break::Device(device))),
         Err(word) => Err(word),
     }
 }
 
-// The words after `until`.
-fn until_of(tree: &Tree<15>, rest: Option<&[u8]>) -> Result<StepCommand, usize>
-    ensures { result ≡ until_of tree.now (words_after (option_copied rest.entry)) }
+fn shown(tree: &Tree<15>, name: &[u8]) -> Result<StepCommand, usize>
+    ensures { result ≡ show_by (device_by 1 (device_named tree.now name.now)) }
 {
-    let Some(rest) = rest else {
-        return Err(1);
-    };
-    let (what, rest) = first_word(rest);
-    if what == b"opcode".as_slice() {
-        until_opcode(rest)
-    } else if what == b"device".as_slice() {
-        until_device(tree, rest)
-    } else if what == b"break".as_slice() {
-        command_alone(2, rest, StepCommand::Until(Break::AnyBreak))
-    } else {
-        Err(1)
+    match device_in(tree, 1, name) {
+        Ok(device) => Ok(StepCommand::Show(device)),
+        Err(word) => Err(word),
     }
 }
 
-// The words after `show`.
-fn shown_of(tree: &Tree<15>, rest: Option<&[u8]>) -> Result<StepCommand, usize>
-    ensures { result ≡ show_by (device_after tree.now 1 (words_after (option_copied rest.entry))) }
+// What the values of a form ask for, or the number of the word that names no device.
+fn command_said(tree: &Tree<15>, line: &FormLine<'_, StepVerb>) -> Result<StepCommand, usize>
+    ensures { result ≡ command_said tree.now line.now.verb (values_of line.now) }
 {
-    match device_after(tree, 1, rest) {
-        Ok(device) => Ok(StepCommand::Show(device)),
-        Err(word) => Err(word),
+    match line.verb {
+        StepVerb::Edge => Ok(StepCommand::Edge),
+        StepVerb::Round => Ok(StepCommand::Round),
+        StepVerb::UntilOpcode => Ok(StepCommand::Until(Break::Opcode(line.byte(2)))),
+        StepVerb::UntilDevice => until_device(tree, line.text(2)),
+        StepVerb::UntilBreak => Ok(StepCommand::Until(Break::AnyBreak)),
+        StepVerb::Show => shown(tree, line.text(1)),
     }
 }
 
@@ -143,17 +99,9 @@ fn shown_of(tree: &Tree<15>, rest: Option<&[u8]>) -> Result<StepCommand, usize>
 fn command_of(tree: &Tree<15>, line: &[u8]) -> Result<StepCommand, usize>
     ensures { result ≡ command_of tree.now line.now }
 {
-    let (verb, rest) = first_word(line);
-    if verb == b"edge".as_slice() {
-        command_alone(1, rest, StepCommand::Edge)
-    } else if verb == b"round".as_slice() {
-        command_alone(1, rest, StepCommand::Round)
-    } else if verb == b"until".as_slice() {
-        until_of(tree, rest)
-    } else if verb == b"show".as_slice() {
-        shown_of(tree, rest)
-    } else {
-        Err(0)
+    match step_said(line) {
+        Ok(line) => command_said(tree, &line),
+        Err(fault) => Err(fault.word),
     }
 }
 

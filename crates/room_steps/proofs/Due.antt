@@ -1,19 +1,20 @@
 -- Commands taken one after another: their texts so far, and the devices that they name.
-use Rattle.std.proofs.Common.{◌≡◌, ℕ, zero, suc, ◌+◌, ◌<◌, Bool, true, false, codes, List, [], ◌∷◌, ◌++◌, length, take, drop, get_or, Option, Some, None, Result, Ok, Err, inl, inr, ap, ◌∙◌, sym, refl, subst, arith, append_assoc, append-nil, length-append, if◌then◌else◌}
+use Rattle.std.proofs.Common.{◌≡◌, ℕ, zero, suc, ◌+◌, ◌<◌, Bool, true, false, List, [], ◌∷◌, ◌++◌, length, take, drop, get_or, Option, Some, None, Result, Ok, Err, inl, inr, ap, ◌∙◌, sym, refl, subst, arith, append_assoc, append-nil, length-append, if◌then◌else◌}
 use Rattle.std.proofs.lemmas.Grind.{common_steps}
 use Rattle.std.proofs.lemmas.List.{take_more, take-append-drop}
 use Rattle.std.proofs.lemmas.List.Elements.{All-append, All-nil, All-from_recursion}
 use Rattle.std.specs.List.{All}
-use Rattle.std.specs.Str.{bytes_eq}
 use Rattle.std.specs.Io.KnownBytes.{Appends}
 use Rattle.text_core.specs.declared.sink.WriteFault.{WriteFault}
 use Rattle.std.proofs.KnownBytes.{Appends-trans}
 use Rattle.edid_tree.specs.Node.{Node}
 use Rattle.edid_tree.specs.Tree.{device_named}
 use Rattle.text_core.specs.Cut.{WrittenText, reported_count}
-use Rattle.text_core.specs.Hex.{hex_byte}
 use Rattle.text_core.specs.Lines.{lines_of, is_skipped}
 use Rattle.text_core.specs.Words.{words_of}
+use Rattle.text_forms.specs.Forms.{Meaning, Said, text_at}
+use Rattle.room_lines.specs.declared.step.StepVerb.{StepVerb}
+use Rattle.room_lines.specs.declared.step.StepVerb.TheVariants as verbs
 use Rattle.text_core.proofs.Cutting.{cut_later}
 use Rattle.line_rounds.specs.declared.Outcome.{Outcome}
 use Rattle.room_net.specs.State.{NetState}
@@ -24,10 +25,9 @@ use Rattle.room_run.specs.declared.run.Turn.TheVariants as turns
 use Rattle.room_run.specs.Run.{turn_of}
 use Rattle.room_net.proofs.Kept.{event_keeps}
 use Rattle.room_step_text.specs.declared.break_at.Break.{Break}
-use Rattle.room_step_text.specs.declared.break_at.Break.TheVariants.{Opcode, AnyBreak}
 use Rattle.room_step_text.specs.declared.commands.StepCommand.{StepCommand}
 use Rattle.room_step_text.specs.declared.commands.StepCommand.TheVariants.{Edge, Round, Until, Show}
-use Rattle.room_step_text.specs.Commands.{LineFault, command_alone, command_of, command_of_words, commands_of, device_after, device_by, lines_read, onward, opcode_by, show_by, until_by, until_of, until_opcode}
+use Rattle.room_step_text.specs.Commands.{LineFault, command_by, command_of, command_said, commands_of, device_by, lines_read, onward, show_by, step_said, until_by}
 use Rattle.room_steps.specs.Steps.{Point, Steps, IsEdgeStepBy, IsRoundStep, IsTaken, Skips, device_count, passed_by, passed_from}
 use Rattle.room_steps.specs.Ready.{InsideIf}
 use Rattle.room_steps.specs.declared.stepper.StepError.TheVariants.{Ended}
@@ -155,47 +155,21 @@ show_names : (tree : List Node) (name : List ℕ) (found : Option ℕ) → devic
 show_names tree name None h = tt
 show_names tree name (Some device) h = named-below tree name device h
 
-shown_names : (tree : List Node) (words : List (List ℕ)) → Named (length tree) (show_by (device_after tree 1 words))
-shown_names tree [] = tt
-shown_names tree (name ∷ []) = show_names tree name (device_named tree name) refl
-shown_names tree (name ∷ word ∷ words) = tt
-
-alone_names : (count after : ℕ) (words : List (List ℕ)) (command : StepCommand) → NamesDevice count command → Named count (command_alone after words command)
-alone_names count after [] command h = h
-alone_names count after (word ∷ words) command h = tt
-
-opcode_names : (count : ℕ) (opcode : Option ℕ) (words : List (List ℕ)) → Named count (opcode_by opcode words)
-opcode_names count None words = tt
-opcode_names count (Some opcode) words = alone_names count 3 words (Until (Opcode opcode)) tt
-
-opcodes_name : (count : ℕ) (words : List (List ℕ)) → Named count (until_opcode words)
-opcodes_name count [] = tt
-opcodes_name count (word ∷ words) = opcode_names count (hex_byte word) words
-
 until_names : (count : ℕ) (device : Result ℕ ℕ) → Named count (until_by device)
 until_names count (Err word) = tt
 until_names count (Ok device) = tt
 
-one_names : (count : ℕ) (b : Bool) (x y : Result StepCommand ℕ) → Named count x → Named count y → Named count (if b then x else y)
-one_names count true x y h k = h
-one_names count false x y h k = k
+said_names : (tree : List Node) (verb : StepVerb) (values : List Meaning) → Named (length tree) (command_said tree verb values)
+said_names tree verbs.Edge values = tt
+said_names tree verbs.Round values = tt
+said_names tree verbs.UntilOpcode values = tt
+said_names tree verbs.UntilDevice values = until_names (length tree) (device_by 2 (device_named tree (text_at values 2)))
+said_names tree verbs.UntilBreak values = tt
+said_names tree verbs.Show values = show_names tree (text_at values 1) (device_named tree (text_at values 1)) refl
 
-untils_name : (tree : List Node) (words : List (List ℕ)) → Named (length tree) (until_of tree words)
-untils_name tree [] = tt
-untils_name tree (what ∷ words) =
-    let count = length tree in
-    one_names count (bytes_eq what (codes "opcode")) _ _ (opcodes_name count words)
-    (one_names count (bytes_eq what (codes "device")) _ _ (until_names count (device_after tree 2 words))
-    (one_names count (bytes_eq what (codes "break")) _ _ (alone_names count 2 words (Until AnyBreak) tt) tt))
-
-worded_names : (tree : List Node) (words : List (List ℕ)) → Named (length tree) (command_of_words tree words)
-worded_names tree [] = tt
-worded_names tree (verb ∷ words) =
-    let count = length tree in
-    one_names count (bytes_eq verb (codes "edge")) _ _ (alone_names count 1 words Edge tt)
-    (one_names count (bytes_eq verb (codes "round")) _ _ (alone_names count 1 words Round tt)
-    (one_names count (bytes_eq verb (codes "until")) _ _ (untils_name tree words)
-    (one_names count (bytes_eq verb (codes "show")) _ _ (shown_names tree words) tt)))
+read_names : (tree : List Node) (read : Said StepVerb) → Named (length tree) (command_by tree read)
+read_names tree (Err fault) = tt
+read_names tree (Ok said) = said_names tree said.0 said.1
 
 more_names : (count number : ℕ) (before commands : List StepCommand) (skipped : Bool) (command : Result StepCommand ℕ) (on : List StepCommand → Result (List StepCommand) LineFault) → Named count command
     → All (NamesDevice count) before → ((next : List StepCommand) → All (NamesDevice count) next → on next ≡ Ok commands → All (NamesDevice count) commands)
@@ -215,7 +189,7 @@ lines_names tree [] number before commands all h = subst (All (NamesDevice (leng
     same_ok : (x y : List StepCommand) → the_ok x ≡ Ok y → x ≡ y
     same_ok x y e = cc
 lines_names tree (line ∷ lines) number before commands all h =
-    more_names (length tree) number before commands (is_skipped line) (command_of tree line) (λ next. lines_read tree lines (number + 1) next) (worded_names tree (words_of line)) all
+    more_names (length tree) number before commands (is_skipped line) (command_of tree line) (λ next. lines_read tree lines (number + 1) next) (read_names tree (step_said (words_of line))) all
     (λ next every k. lines_names tree lines (number + 1) next commands every k) h
 
 -- those of a text are devices of the tree

@@ -10,18 +10,18 @@ use Rattle.rules_values.specs.BlockParts.{lists_vga, is_video_capability, fixes_
 use Rattle.rules_values.specs.ExtParts.{is_cta, begins_with_map, overscans, has_ill_padding, native_count, hides_sound, some_block, hdmi_count, has_forum_first, timings_of}
 use Rattle.rules_values.specs.VideoCodes.{video_codes, repeats, has_lone_code}
 use Rattle.rules_native.specs.Natives.{has_mixed_natives}
-use Rattle.rules_contents.specs.Extensions.{overruns, has_other_revision, has_unknown_tag, repeats_block, has_fixed_ycc, is_override, has_misplaced_override, has_low_override}
+use Rattle.rules_contents.specs.Extensions.{overruns, has_other_revision, has_unknown_tag, has_wrong_section, repeats_block, has_fixed_ycc, is_override, has_misplaced_override, has_low_override}
 use Rattle.rules_contents.specs.Bases.{is_ill_text, is_reserved_week, is_late_year, has_other_gamma, has_reserved_input}
 use Rattle.rules_contents.specs.Contents.{has_slip}
 use Rattle.rules_contents.specs.declared.contents.Slip.TheVariants as slip
-use Rattle.rules_link.specs.Offers.{has_code_beyond, is_of_hdmi}
+use Rattle.rules_link.specs.Offers.{has_format_beyond, is_of_hdmi}
 use Rattle.rules_rates.specs.Formats.{has_format_outside}
 use Rattle.rules_rates.specs.Limits.{has_reversed_limits}
 use Rattle.rules_rates.specs.Maps.{has_past, has_slow}
 use Rattle.rules_check.specs.declared.rule.Origin.{Origin}
 use Rattle.rules_check.specs.declared.rule.Origin.TheVariants.{Display, Port}
 use Rattle.rules_check.specs.declared.rule.Rule.{Rule}
-use Rattle.rules_check.specs.declared.rule.Rule.TheVariants.{FirstTimingPreferred, PreferredTiming, ProductName, RangeLimits, LimitsAlone, LimitsOrder, Week, Srgb, NoEmptyDescriptor, UnusedStandard, BlockMap, HdmiRevision, OneSerial, Vga, VideoCodeOnce, NativeCount, NativeSize, Underscan, BasicAudio, Speakers, Padding, VideoCapability, RgbRange, TmdsClock, Address, OneHdmi, HdmiVideoCode, ForumAfterHdmi, CtaForm, CtaRevision, ExtensionTag, Block, BlockOnce, OverrideFirst, OverrideCount, MapWithinCodes, FastYcc420, YccRange, FormatsWithinLimits, FormatsNearLimits, FormatsCarried, TextForm, WeekKnown, YearKnown, SrgbGamma, InputKnown}
+use Rattle.rules_check.specs.declared.rule.Rule.TheVariants.{FirstTimingPreferred, PreferredTiming, ProductName, RangeLimits, LimitsAlone, LimitsOrder, Week, Srgb, NoEmptyDescriptor, UnusedStandard, BlockMap, HdmiRevision, OneSerial, Vga, VideoCodeOnce, NativeCount, NativeSize, Underscan, BasicAudio, Speakers, Padding, VideoCapability, RgbRange, TmdsClock, Address, OneHdmi, HdmiVideoCode, ForumAfterHdmi, CtaForm, CtaRevision, ExtensionTag, Block, BlockOnce, OverrideFirst, OverrideCount, MapWithinCodes, FastYcc420, YccRange, FormatsWithinLimits, FormatsNearLimits, FormatsCarried, TextForm, WeekKnown, YearKnown, SrgbGamma, InputKnown, SectionSum}
 
 -- all rules, in the order in which they are looked at
 abbrev pub rules : List Rule
@@ -31,7 +31,7 @@ rules =
     VideoCapability ∷ RgbRange ∷ TmdsClock ∷ Address ∷ OneHdmi ∷ HdmiVideoCode ∷ ForumAfterHdmi ∷
     CtaForm ∷ CtaRevision ∷ ExtensionTag ∷
     Block slip.Length ∷ BlockOnce ∷ OverrideFirst ∷ OverrideCount ∷ Block slip.Tag ∷ Block slip.AudioFormat ∷ Block slip.HdrBits ∷ Block slip.VideoCode ∷ Block slip.HdmiCode ∷ Block slip.ForumClock ∷ Block slip.ForumScdc ∷ Block slip.ForumRates ∷
-    MapWithinCodes ∷ FastYcc420 ∷ YccRange ∷ Block slip.Latency ∷ FormatsWithinLimits ∷ FormatsNearLimits ∷ FormatsCarried ∷ TextForm ∷ WeekKnown ∷ YearKnown ∷ SrgbGamma ∷ InputKnown ∷ Block slip.Reserved ∷ Block slip.Bytes ∷ []
+    MapWithinCodes ∷ FastYcc420 ∷ YccRange ∷ Block slip.Latency ∷ FormatsWithinLimits ∷ FormatsNearLimits ∷ FormatsCarried ∷ TextForm ∷ WeekKnown ∷ YearKnown ∷ SrgbGamma ∷ InputKnown ∷ Block slip.Reserved ∷ Block slip.Bytes ∷ SectionSum ∷ []
 
 -- an HDMI block has the address of no place in a tree, or in a port's EDID that of the root (HDMI 1.4, section 8.7.3)
 abbrev pub has_ill_address : Origin → List Ext → Bool
@@ -130,7 +130,7 @@ is_broken o FormatsWithinLimits b xs = is_three b.revision && has_format_outside
 -- in 1.4 a format that is told of by its name holds whatever the limits are (E-EDID 1.4, section 3.10.3.3)
 is_broken o FormatsNearLimits b xs = not (is_three b.revision) && has_format_outside b xs
 -- a format has room on the link (HDMI 1.4b, section 8.3.2; HDMI 2.1, section 10.3.2)
-is_broken o FormatsCarried b xs = is_of_hdmi b && has_code_beyond xs
+is_broken o FormatsCarried b xs = is_of_hdmi b && has_format_beyond xs
 -- printable characters, a line feed after fewer than 13, and then spaces (E-EDID Release A, section 3.10.3)
 is_broken o TextForm b xs = list_any is_ill_text b.descriptors
 -- weeks 55 to 254 are reserved (E-EDID 1.4, section 3.4.4)
@@ -141,3 +141,5 @@ is_broken o YearKnown b xs = is_late_year b
 is_broken o SrgbGamma b xs = has_other_gamma b
 -- bits that 1.3 reserves, and depths and interfaces that 1.4 does (E-EDID Release A and 1.4, section 3.6.1)
 is_broken o InputKnown b xs = has_reserved_input b
+-- the sum of the section of a DisplayID extension is 0 modulo 256 (DisplayID 1.3, section 3; DisplayID 2.1, section 3)
+is_broken o SectionSum b xs = list_any has_wrong_section xs

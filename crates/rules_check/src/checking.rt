@@ -12,9 +12,9 @@ use edid_cta::{DataBlock, Ext};
 use rules_contents::{
     Slip, has_low_override, has_misplaced_override, has_other_gamma, has_reserved_input,
     is_late_year, is_override, is_reserved_week, some_fixed_ycc, some_ill_text,
-    some_other_revision, some_overrun, some_repeated, some_slip, some_unknown,
+    some_other_revision, some_overrun, some_repeated, some_slip, some_unknown, some_wrong_section,
 };
-use rules_link::{has_code_beyond, is_of_hdmi, is_timing_beyond};
+use rules_link::{has_format_beyond, is_of_hdmi, is_timing_beyond};
 use rules_native::has_mixed_natives;
 use rules_rates::{
     has_format_outside, has_reversed_limits, is_out_of_range, some_past, some_slow, timing_pace,
@@ -27,15 +27,15 @@ use rules_values::{
     timings_of, video_codes,
 };
 
-/// The most findings of an EDID: 57 rules, and nine for each of 22 timings.
-pub const MAX_FINDINGS: usize = 255;
+/// The most findings of an EDID: 58 rules, and nine for each of 22 timings.
+pub const MAX_FINDINGS: usize = 256;
 /// The least pixel clock of a timing: 10 MHz, in units of 10 kHz.
 const MIN_CLOCK: u16 = 1000;
 /// How much larger or smaller than the display an image may be, in millimetres.
 const SIZE_TOLERANCE: u16 = 9;
 
 /// All rules, in the order in which they are looked at.
-const RULES: [Rule; 57] = [
+const RULES: [Rule; 58] = [
     Rule::FirstTimingPreferred,
     Rule::PreferredTiming,
     Rule::ProductName,
@@ -93,6 +93,7 @@ const RULES: [Rule; 57] = [
     Rule::InputKnown,
     Rule::Block(Slip::Reserved),
     Rule::Block(Slip::Bytes),
+    Rule::SectionSum,
 ];
 
 const TIMING_RULES: [TimingRule; 9] = [
@@ -209,12 +210,13 @@ fn is_broken(origin: Origin, rule: Rule, base: &Base, extensions: &[Ext]) -> boo
         Rule::FormatsWithinLimits => is_three(base.revision)
             && has_format_outside(base, extensions),
         Rule::FormatsNearLimits => !is_three(base.revision) && has_format_outside(base, extensions),
-        Rule::FormatsCarried => is_of_hdmi(base) && has_code_beyond(extensions),
+        Rule::FormatsCarried => is_of_hdmi(base) && has_format_beyond(extensions),
         Rule::TextForm => some_ill_text(base),
         Rule::WeekKnown => is_reserved_week(base),
         Rule::YearKnown => is_late_year(base),
         Rule::SrgbGamma => has_other_gamma(base),
         Rule::InputKnown => has_reserved_input(base),
+        Rule::SectionSum => some_wrong_section(extensions),
     }
 }
 
@@ -328,9 +330,9 @@ fn add_edid(
     extensions: &[Ext],
 )
     requires few { length extensions.now ≤ 3 }
-    requires room { array_vec_len found.old + 57 ≤ MAX_FINDINGS }
+    requires room { array_vec_len found.old + 58 ≤ MAX_FINDINGS }
     ensures items { found.new.items ≡ found.old.items ++ edid_findings origin base.now extensions.now }
-    ensures len { array_vec_len found.new ≤ array_vec_len found.old + 57 }
+    ensures len { array_vec_len found.new ≤ array_vec_len found.old + 58 }
 {
     add_rules(found, &RULES, origin, base, extensions);
 }

@@ -80,11 +80,11 @@ pub enum Rule {
     FastYcc420,
     /// The range of YCbCr values can be chosen where there is YCbCr.
     YccRange,
-    /// Video codes, established and standard timings are within the range limits of revision 3.
+    /// Video codes, established, standard and DisplayID timings are within the range limits of revision 3.
     FormatsWithinLimits,
-    /// Video codes, established and standard timings are within the range limits of revision 4.
+    /// Video codes, established, standard and DisplayID timings are within the range limits of revision 4.
     FormatsNearLimits,
-    /// The link carries the formats of video codes.
+    /// The link carries the formats of video codes and of DisplayID.
     FormatsCarried,
     /// A name, a text and a serial number have the form of a text.
     TextForm,
@@ -96,6 +96,8 @@ pub enum Rule {
     SrgbGamma,
     /// A digital input has no reserved depth and no reserved interface.
     InputKnown,
+    /// The section of a DisplayID extension has a right checksum.
+    SectionSum,
 }
 
 /// A rule for a detailed timing.

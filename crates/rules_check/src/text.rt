@@ -14,7 +14,7 @@ use text_core::{Sink, WriteFault, put_all};
 /// The bytes that the longest line has room in.
 const LINE: usize = 40;
 /// The bytes that the lines of all findings have room in: a `LINE` for each.
-const TEXT: usize = 10_200;
+const TEXT: usize = 10_240;
 
 fn rule_severity(rule: Rule) -> Severity
     ensures { result ≡ rule_severity rule }
@@ -137,6 +137,7 @@ pub fn rule_name(rule: Rule) -> &'static str
         Rule::InputKnown => "input-reserved",
         Rule::Block(Slip::Reserved) => "reserved",
         Rule::Block(Slip::Bytes) => "length",
+        Rule::SectionSum => "displayid-checksum",
     }
 }
 

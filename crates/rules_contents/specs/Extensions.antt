@@ -1,6 +1,6 @@
 -- What the rules ask of the extensions that are kept as they are (E-EDID Release A, section 2.2.1), and of the blocks of an
 -- extension taken together (CTA-861-G, section 7.5).
-use Rattle.std.specs.Prelude.{ℕ, ◌/◌, ◌%◌, ◌==◌, Bool, false, ◌&&◌, ◌||◌, not, nat_lt, List, [], ◌∷◌, length, slice_index, drop, count_by}
+use Rattle.std.specs.Prelude.{ℕ, ◌/◌, ◌%◌, ◌==◌, Bool, false, ◌&&◌, ◌||◌, not, nat_lt, List, [], ◌∷◌, ◌+◌, length, slice_index, drop, take, sum, count_by}
 use Rattle.std.specs.List.{list_any}
 use Rattle.edid_base.specs.declared.base.Base.{Base}
 use Rattle.edid_cta.specs.Hdmi.{blocks_of}
@@ -33,6 +33,15 @@ is_known_tag tag =
 abbrev pub has_unknown_tag : Ext → Bool
 has_unknown_tag (Raw r) = not (is_known_tag (slice_index r.bytes 0))
 has_unknown_tag _ = false
+
+-- The section of a DisplayID extension stands after the extension's tag: its byte 1 counts its bytes but for the four of its header and
+-- the last one, which makes the sum of all 0 modulo 256 (DisplayID 1.3, section 3; DisplayID 2.1, section 3).
+abbrev pub section_bytes : List ℕ → List ℕ
+section_bytes bytes = take (slice_index bytes 2 + 5) (drop 1 bytes)
+
+abbrev pub has_wrong_section : Ext → Bool
+has_wrong_section (Raw r) = (slice_index r.bytes 0 == 0x70) && not (sum (section_bytes r.bytes) % 256 == 0)
+has_wrong_section _ = false
 
 -- ---- blocks that stand once
 

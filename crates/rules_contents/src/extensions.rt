@@ -1,17 +1,21 @@
 //! What the rules ask of extensions.
-ghost use Rattle.std.specs.Prelude.{◌≡◌, ◌≤◌, count_by};
+ghost use Rattle.std.specs.Prelude.{◌≡◌, ◌≤◌, ◌==◌, ◌%◌, sum, count_by};
 ghost use Rattle.std.specs.List.{list_any};
 ghost use Rattle.rules_values.specs.ExtParts.{some_block};
 ghost use Rattle.rules_contents.specs.Contents.{is_of_sort, has_slip};
-ghost use Rattle.rules_contents.specs.Extensions.{overruns, has_other_revision, is_known_tag, has_unknown_tag, sorts, has_two, repeats_block, fixes_ycc_range, has_fixed_ycc, is_override, has_misplaced_override, begins_low, has_low_override};
+ghost use Rattle.rules_contents.specs.Extensions.{overruns, has_other_revision, is_known_tag, has_unknown_tag, section_bytes, has_wrong_section, sorts, has_two, repeats_block, fixes_ycc_range, has_fixed_ycc, is_override, has_misplaced_override, begins_low, has_low_override};
 
 use crate::contents::{Slip, Sort, byte_at, has_extended_tag, has_slip, is_of_sort, is_override};
-use edid_base::Base;
+use edid_base::{Base, is_summed};
 use edid_cta::{DataBlock, Ext};
 use rules_values::blocks_of;
 
 /// The first byte of a CTA block.
 const CTA_TAG: u8 = 0x02;
+/// The first byte of a DisplayID extension.
+const DISPLAYID_TAG: u8 = 0x70;
+/// The bytes of the header of its section, and its checksum.
+const SECTION_FRAME: usize = 5;
 /// The only revision of a CTA block whose parts are told apart.
 const CTA_REVISION: u8 = 3;
 /// The extended tag of a video capability block.
@@ -79,6 +83,43 @@ pub fn some_unknown(extensions: &[Ext]) -> bool
     ensures { result ≡ list_any has_unknown_tag extensions.now }
 {
     extensions.iter().any(|ext| has_unknown_tag(ext))
+}
+
+/// The section of a DisplayID extension, after the extension's tag.
+fn section_bytes(bytes: &[u8; 128]) -> &[u8]
+    ensures { result.now ≡ section_bytes bytes.now }
+{
+    let (_tag, rest) = bytes.split_at(1);
+    let count = usize::from(bytes[2]) + SECTION_FRAME;
+    if count < rest.len() {
+        &rest[..count]
+    } else {
+        rest
+    }
+}
+
+fn has_right_sum(bytes: &[u8]) -> bool
+    ensures { result ≡ (sum bytes.now % 256 == 0) }
+{
+    is_summed(bytes)
+}
+
+fn has_wrong_section(ext: &Ext) -> bool
+    ensures { result ≡ has_wrong_section ext.now }
+{
+    match ext {
+        Ext::Raw(raw) => {
+            raw.bytes[0] == DISPLAYID_TAG && !has_right_sum(section_bytes(&raw.bytes))
+        }
+        Ext::Cta(_) | Ext::Bare(_) => false,
+    }
+}
+
+/// Whether the section of some DisplayID extension has a wrong checksum, or has more bytes than there is room for.
+pub fn some_wrong_section(extensions: &[Ext]) -> bool
+    ensures { result ≡ list_any has_wrong_section extensions.now }
+{
+    extensions.iter().any(|ext| has_wrong_section(ext))
 }
 
 /// How many of some data blocks are of a sort.

@@ -13,5 +13,6 @@ pub use contents::{Slip, Sort, forum_of, has_extended_tag, has_slip, is_forum_bl
 pub use extensions::{
     SORTS, count_of_sort, fixes_ycc_range, has_low_override, has_misplaced_override, overruns,
     some_fixed_ycc, some_other_revision, some_overrun, some_repeated, some_slip, some_unknown,
+    some_wrong_section,
 };
 pub use laws::{lengths_are_found, reserved_values_are_found};

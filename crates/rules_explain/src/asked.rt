@@ -144,13 +144,13 @@ fn asked_of_extensions(rule: Rule) -> &'static str {
             "the audio latency of an HDMI block is at most 20 ms above the video latency (HDMI 1.4, 8.3.2)"
         }
         Rule::FormatsWithinLimits => {
-            "video codes, established and standard timings are within the range limits (E-EDID A, 3.10.3.3)"
+            "video codes, established, standard and DisplayID timings are within the range limits (E-EDID A, 3.10.3.3)"
         }
         Rule::FormatsNearLimits => {
-            "video codes, established and standard timings are within the range limits; in 1.4 they may be outside (E-EDID 1.4, 3.10.3.3)"
+            "video codes, established, standard and DisplayID timings are within the range limits; in 1.4 they may be outside (E-EDID 1.4, 3.10.3.3)"
         }
         Rule::FormatsCarried => {
-            "the link carries each video code: its clock, halved in 4:2:0 alone, is at most that of the HDMI and HDMI Forum blocks, 165 MHz where none is given, or it fits their fixed rate link (HDMI 1.4, 8.3.2; HDMI 2.1, 10.3.2)"
+            "the link carries each video code and DisplayID timing: its clock, halved in 4:2:0 alone, is at most that of the HDMI and HDMI Forum blocks, 165 MHz where none is given, or it fits their fixed rate link (HDMI 1.4, 8.3.2; HDMI 2.1, 10.3.2)"
         }
         Rule::TextForm => {
             "a name, a text and a serial number are printable characters, with a line feed and spaces after fewer than 13 (E-EDID A, 3.10.3)"
@@ -168,6 +168,9 @@ fn asked_of_extensions(rule: Rule) -> &'static str {
         }
         Rule::Block(Slip::Bytes) => {
             "a data block has all bytes of its fields, and no others (CTA-861-H, 7.5; HDMI 1.4, 8.3.2; HDMI 2.1, 10.3)"
+        }
+        Rule::SectionSum => {
+            "the bytes of a DisplayID section after the extension's tag, with its checksum, have the sum 0 modulo 256, and stand within the extension (DisplayID 1.3, 3)"
         }
         _ => "",
     }

@@ -5,7 +5,7 @@ use edid_tables::{body_of, layout_of, left_of, parts_of};
 use rules_check::Rule;
 use rules_contents::{
     SORTS, Slip, Sort, count_of_sort, has_slip, is_override, some_other_revision, some_overrun,
-    some_unknown,
+    some_unknown, some_wrong_section,
 };
 use rules_values::blocks_of;
 use std::alloc::{AllocError, Global};
@@ -15,6 +15,7 @@ fn is_ill(rule: Rule, one: &[Ext]) -> bool {
     match rule {
         Rule::CtaForm => some_overrun(one),
         Rule::CtaRevision => some_other_revision(one),
+        Rule::SectionSum => some_wrong_section(one),
         _ => some_unknown(one),
     }
 }

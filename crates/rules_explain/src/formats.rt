@@ -5,10 +5,11 @@ use crate::blocks::bytes_reported;
 use crate::limits::{pace_reported, standard_reported};
 use edid_base::Base;
 use edid_cta::Ext;
+use edid_displayid::{TypedFormat, typed_formats};
 use rules_contents::fixes_ycc_range;
 use rules_rates::{
     ESTABLISHED, established_bits, has_past, has_slow, is_established_outside, is_out_of_range,
-    is_standard_outside, pace_of,
+    is_standard_outside, pace_of, typed_pace,
 };
 use rules_values::{blocks_of, video_codes};
 use std::alloc::{AllocError, Global};
@@ -99,7 +100,43 @@ fn first_code(alloc: Global, base: &Base, extensions: &[Ext]) -> Result<Option<S
     Ok(None)
 }
 
-/// The first video code outside the range limits, or the first standard or established timing, with the limit, its rate and by how much.
+/// The name of a format of DisplayID.
+pub fn typed_reported(alloc: Global, format: TypedFormat) -> Result<String, AllocError> {
+    match format {
+        TypedFormat::Timing(_) => format!(in alloc; "a timing of DisplayID"),
+        TypedFormat::Code(code) => format!(in alloc; "video code {code} of DisplayID"),
+    }
+}
+
+/// The first format of DisplayID outside the range limits, with what of it is outside.
+fn first_typed(alloc: Global, base: &Base, extensions: &[Ext]) -> Result<Option<String>, AllocError>
+    requires { length extensions.now ≤ 3 }
+{
+    let formats = typed_formats(extensions);
+    for format in formats.as_slice() {
+        if let Some(pace) = typed_pace(*format) {
+            if is_out_of_range(base, pace) {
+                let beyond = pace_reported(alloc, base, pace)?;
+                let name = typed_reported(alloc, *format)?;
+                return Ok(Some(format!(in alloc; "{name}, {beyond}")?));
+            }
+        }
+    }
+    Ok(None)
+}
+
+/// The first established timing outside the range limits, or the first format of DisplayID, with what of it is outside.
+fn first_other(alloc: Global, base: &Base, extensions: &[Ext]) -> Result<Option<String>, AllocError>
+    requires { length extensions.now ≤ 3 }
+{
+    match first_established(alloc, base)? {
+        None => first_typed(alloc, base, extensions),
+        Some(text) => Ok(Some(text)),
+    }
+}
+
+/// The first video code outside the range limits, or the first standard timing, established timing or format of DisplayID, with the limit,
+/// its rate and by how much.
 pub fn format_reported(
     alloc: Global,
     base: &Base,
@@ -111,7 +148,7 @@ pub fn format_reported(
         return Ok(Some(text));
     }
     match first_standard(alloc, base)? {
-        None => first_established(alloc, base),
+        None => first_other(alloc, base, extensions),
         Some(text) => Ok(Some(text)),
     }
 }

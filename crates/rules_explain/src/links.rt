@@ -2,10 +2,15 @@
 ghost use Rattle.std.specs.Prelude.{◌≤◌, length};
 
 use crate::blocks::bytes_reported;
+use crate::formats::typed_reported;
 use edid_cta::{DataBlock, Ext};
+use edid_displayid::typed_formats;
 use edid_layout::code_of_hdmi;
 use rules_contents::{forum_of, has_extended_tag, is_forum_block};
-use rules_link::{Load, block_rate, characters, fixed_gigabits, is_code_beyond, load_of};
+use rules_link::{
+    Load, block_rate, characters, fixed_gigabits, is_code_beyond, is_typed_beyond, load_of,
+    typed_load,
+};
 use rules_values::{blocks_of, code_of, hdmi_codes, video_codes};
 use std::alloc::{AllocError, Global};
 
@@ -145,7 +150,7 @@ fn own_reported(
 }
 
 /// The first video code that the link does not carry: of the video blocks, in 4:2:0 alone, of HDMI's own.
-pub fn code_reported(alloc: Global, extensions: &[Ext]) -> Result<Option<String>, AllocError>
+fn code_reported(alloc: Global, extensions: &[Ext]) -> Result<Option<String>, AllocError>
     requires { length extensions.now ≤ 3 }
 {
     let codes = video_codes(extensions);
@@ -163,4 +168,34 @@ pub fn code_reported(alloc: Global, extensions: &[Ext]) -> Result<Option<String>
         }
     }
     Ok(None)
+}
+
+/// The first format of DisplayID that the link does not carry.
+fn first_typed_beyond(alloc: Global, extensions: &[Ext]) -> Result<Option<String>, AllocError>
+    requires { length extensions.now ≤ 3 }
+{
+    let formats = typed_formats(extensions);
+    for format in formats.as_slice() {
+        if is_typed_beyond(extensions, *format) {
+            if let Some(load) = typed_load(*format) {
+                let name = typed_reported(alloc, *format)?;
+                let reported = load_reported(alloc, extensions, load)?;
+                return Ok(Some(format!(in alloc; "{name}, {reported}")?));
+            }
+        }
+    }
+    Ok(None)
+}
+
+/// The first format that the link does not carry and that is no detailed timing: with a code, or else of DisplayID.
+pub fn beyond_format_reported(
+    alloc: Global,
+    extensions: &[Ext],
+) -> Result<Option<String>, AllocError>
+    requires { length extensions.now ≤ 3 }
+{
+    match code_reported(alloc, extensions)? {
+        Some(text) => Ok(Some(text)),
+        None => first_typed_beyond(alloc, extensions),
+    }
 }

@@ -7,7 +7,7 @@ use crate::blocks::{
 };
 use crate::formats::{format_reported, map_reported, range_reported, slow_reported};
 use crate::limits::pace_reported;
-use crate::links::{code_reported, load_reported};
+use crate::links::{beyond_format_reported, load_reported};
 use crate::places::{
     capability_reported, empty_reported, ill_text_reported, padding_reported, speakers_reported,
     tmds_reported, unused_reported,
@@ -183,7 +183,7 @@ fn reported_of_edid(
         Rule::FormatsWithinLimits | Rule::FormatsNearLimits => {
             format_reported(alloc, base, extensions)
         }
-        Rule::FormatsCarried => code_reported(alloc, extensions),
+        Rule::FormatsCarried => beyond_format_reported(alloc, extensions),
         Rule::TextForm => ill_text_reported(alloc, base),
         Rule::YearKnown => {
             let year = base.year;
@@ -200,7 +200,7 @@ fn reported_of_edid(
         Rule::BlockOnce => repeated_block_reported(alloc, extensions),
         Rule::OverrideFirst => override_reported(alloc, extensions),
         Rule::OverrideCount => override_count_reported(alloc, base.extensions, extensions),
-        Rule::CtaForm | Rule::CtaRevision | Rule::ExtensionTag => {
+        Rule::CtaForm | Rule::CtaRevision | Rule::ExtensionTag | Rule::SectionSum => {
             extension_reported(alloc, rule, extensions)
         }
         Rule::Address => address_reported(alloc, extensions),

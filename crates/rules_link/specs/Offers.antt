@@ -1,13 +1,17 @@
 -- The formats that an EDID offers with a clock: video codes (CTA-861-G, section 7.5.1), those in 4:2:0 alone (section 7.5.10), HDMI's own
--- (HDMI 1.4b, section 8.2.3), and detailed timings (E-EDID Release A, section 3.10.2). A code that the 4:2:0 map marks is there in RGB
+-- (HDMI 1.4b, section 8.2.3), detailed timings (E-EDID Release A, section 3.10.2), and formats of DisplayID. A code that the 4:2:0 map marks is there in RGB
 -- too (CTA-861-G, section 7.5.11). Established timings are slower than any link. Standard timings have no clock of their own.
-use Rattle.std.specs.Prelude.{ℕ, ◌+◌, ◌*◌, ◌%◌, ◌==◌, Bool, true, false, ◌&&◌, ◌||◌, nat_le, List, drop, Option, Some, None}
+use Rattle.std.specs.Prelude.{ℕ, ◌+◌, ◌*◌, ◌%◌, ◌==◌, Bool, true, false, ◌&&◌, ◌||◌, nat_le, if◌then◌else◌, List, drop, Option, Some, None}
 use Rattle.std.specs.List.{list_any}
 use Rattle.edid_base.specs.declared.base.Base.{Base}
 use Rattle.edid_base.specs.declared.timing.Timing.{Timing}
 use Rattle.edid_cta.specs.Hdmi.{is_hdmi}
 use Rattle.edid_cta.specs.declared.block.DataBlock.{DataBlock}
 use Rattle.edid_cta.specs.declared.raw.Ext.{Ext}
+use Rattle.edid_displayid.specs.Formats.{typed_formats}
+use Rattle.edid_displayid.specs.declared.timing.TypedFormat.{TypedFormat}
+use Rattle.edid_displayid.specs.declared.timing.TypedFormat.TheVariants.{Timing as OfTiming, Code as OfCode}
+use Rattle.edid_displayid.specs.declared.timing.TypedTiming.{TypedTiming}
 use Rattle.edid_layout.specs.HdmiBlock.{code_of_hdmi}
 use Rattle.meaning_words.specs.Formats.{format_of}
 use Rattle.meaning_words.specs.declared.formats.VideoFormat.{VideoFormat}
@@ -66,3 +70,29 @@ timing_load t = record { clock = t.clock * 10; width = t.horizontal_active; pixe
 
 abbrev pub is_timing_beyond : List Ext → Timing → Bool
 is_timing_beyond xs t = is_beyond xs (timing_load t)
+
+-- ---- formats of DisplayID
+
+-- of one whose clock has 2 ^ 32 kHz, or whose line has more than 65,535 pixels, nothing is known (own)
+abbrev pub has_known_width : TypedTiming → Bool
+has_known_width t = nat_le t.clock 4294967295 && nat_le t.width 65535 && nat_le t.pixels 65535
+
+abbrev pub typed_timing_load : TypedTiming → Option Load
+typed_timing_load t =
+    if has_known_width t then Some (record { clock = t.clock; width = t.width; pixels = t.pixels; is_halved = false }) else None
+
+-- one that is there in 4:2:0 too has its whole clock
+abbrev pub typed_load : TypedFormat → Option Load
+typed_load (OfTiming t) = typed_timing_load t
+typed_load (OfCode code) = load_of false code
+
+abbrev pub is_typed_beyond : List Ext → TypedFormat → Bool
+is_typed_beyond xs f = is_some_beyond xs (typed_load f)
+
+abbrev pub has_typed_beyond : List Ext → Bool
+has_typed_beyond xs = list_any (is_typed_beyond xs) (typed_formats xs)
+
+-- ---- all but detailed timings
+
+abbrev pub has_format_beyond : List Ext → Bool
+has_format_beyond xs = has_code_beyond xs || has_typed_beyond xs

@@ -4,12 +4,13 @@ ghost use Rattle.std.specs.List.{list_any};
 ghost use Rattle.edid_layout.specs.HdmiBlock.{code_of_hdmi};
 ghost use Rattle.rules_values.specs.ExtParts.{some_block};
 ghost use Rattle.rules_values.specs.VideoCodes.{code_of};
-ghost use Rattle.rules_link.specs.Offers.{is_of_hdmi, width_of, load_by, load_of, is_some_beyond, is_code_beyond, offers_beyond, has_code_beyond, timing_load, is_timing_beyond};
+ghost use Rattle.rules_link.specs.Offers.{is_of_hdmi, width_of, load_by, load_of, is_some_beyond, is_code_beyond, offers_beyond, has_code_beyond, timing_load, is_timing_beyond, has_known_width, typed_timing_load, typed_load, is_typed_beyond, has_typed_beyond, has_format_beyond};
 
 use crate::link::is_beyond;
 use crate::load::Load;
 use edid_base::{Base, Timing};
 use edid_cta::{DataBlock, Ext};
+use edid_displayid::{TypedFormat, TypedTiming, typed_formats};
 use edid_layout::code_of_hdmi;
 use meaning_words::{VideoFormat, format_of};
 use rules_contents::has_extended_tag;
@@ -20,6 +21,10 @@ use rules_values::{blocks_of, code_of, hdmi_codes, is_three, video_codes};
 const VIDEO_420: u8 = 0x0e;
 /// An input from here on is digital.
 const DIGITAL: u8 = 128;
+/// The fastest clock in kHz, and the most pixels of a line, that a link is asked for.
+const MOST_CLOCK: u64 = 4_294_967_295;
+
+const MOST_PIXELS: u64 = 65_535;
 /// The unit of a detailed timing's clock in kHz.
 const TIMING_CLOCK: u32 = 10;
 
@@ -125,7 +130,7 @@ fn some_block_beyond(extensions: &[Ext]) -> bool
 }
 
 /// Whether the link does not carry a format that has a code: of a video block, in 4:2:0 alone, or of HDMI's own.
-pub fn has_code_beyond(extensions: &[Ext]) -> bool
+fn has_code_beyond(extensions: &[Ext]) -> bool
     requires { length extensions.now ≤ 3 }
     ensures { result ≡ has_code_beyond extensions.now }
 {
@@ -149,4 +154,66 @@ pub fn is_timing_beyond(extensions: &[Ext], timing: &Timing) -> bool
     ensures { result ≡ is_timing_beyond extensions.now timing.now }
 {
     is_beyond(extensions, timing_load(timing))
+}
+
+fn has_known_width(timing: TypedTiming) -> bool
+    ensures { result ≡ has_known_width timing }
+{
+    timing.clock <= MOST_CLOCK && timing.width <= MOST_PIXELS && timing.pixels <= MOST_PIXELS
+}
+
+fn typed_timing_load(timing: TypedTiming) -> Option<Load>
+    ensures { result ≡ typed_timing_load timing }
+{
+    if has_known_width(timing) {
+        Some(Load {
+            clock: timing.clock as u32,
+            width: timing.width as u16,
+            pixels: timing.pixels as u16,
+            is_halved: false,
+        })
+    } else {
+        None
+    }
+}
+
+/// A format of DisplayID as a link carries it.
+pub fn typed_load(format: TypedFormat) -> Option<Load>
+    ensures { result ≡ typed_load format }
+{
+    match format {
+        TypedFormat::Timing(timing) => typed_timing_load(timing),
+        TypedFormat::Code(code) => load_of(false, code),
+    }
+}
+
+/// Whether the link does not carry a format of DisplayID.
+pub fn is_typed_beyond(extensions: &[Ext], format: TypedFormat) -> bool
+    ensures { result ≡ is_typed_beyond extensions.now format }
+{
+    is_some_beyond(extensions, typed_load(format))
+}
+
+/// Whether the link does not carry one of some formats of DisplayID.
+pub fn some_typed_beyond(extensions: &[Ext], formats: &[TypedFormat]) -> bool
+    ensures { result ≡ list_any (is_typed_beyond extensions.now) formats.now }
+{
+    formats
+        .iter()
+        .any(|format| is_typed_beyond(extensions, *format))
+}
+
+fn has_typed_beyond(extensions: &[Ext]) -> bool
+    requires { length extensions.now ≤ 3 }
+    ensures { result ≡ has_typed_beyond extensions.now }
+{
+    some_typed_beyond(extensions, typed_formats(extensions).as_slice())
+}
+
+/// Whether the link does not carry a format that has a code, or one of DisplayID.
+pub fn has_format_beyond(extensions: &[Ext]) -> bool
+    requires { length extensions.now ≤ 3 }
+    ensures { result ≡ has_format_beyond extensions.now }
+{
+    has_code_beyond(extensions) || has_typed_beyond(extensions)
 }

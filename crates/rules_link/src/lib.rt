@@ -6,8 +6,8 @@ mod link;
 mod load;
 
 pub use formats::{
-    has_code_beyond, is_code_beyond, is_of_hdmi, is_timing_beyond, load_of, own_beyond,
-    svds_beyond, timing_load,
+    has_format_beyond, is_code_beyond, is_of_hdmi, is_timing_beyond, is_typed_beyond, load_of,
+    own_beyond, some_typed_beyond, svds_beyond, timing_load, typed_load,
 };
 pub use link::{block_rate, characters, fixed_gigabits, is_beyond, is_carried};
 pub use load::Load;

@@ -1,6 +1,6 @@
 -- The formats of an EDID beside its detailed timings: video codes (CTA-861-G, section 7.5.1), established timings (E-EDID Release A,
--- section 3.8) and standard timings (section 3.9); and whether one is outside the range limits (section 3.10.3.3).
-use Rattle.std.specs.Prelude.{ℕ, ◌+◌, ◌*◌, ◌/◌, ◌%◌, ◌==◌, Bool, false, ◌&&◌, ◌||◌, nat_lt, if◌then◌else◌, List, [], ◌∷◌, slice_index, Option, Some, None}
+-- section 3.8), standard timings (section 3.9) and formats of DisplayID; and whether one is outside the range limits (section 3.10.3.3).
+use Rattle.std.specs.Prelude.{ℕ, ◌+◌, ◌*◌, ◌/◌, ◌%◌, ◌==◌, Bool, false, ◌&&◌, ◌||◌, not, nat_lt, nat_le, if◌then◌else◌, List, [], ◌∷◌, slice_index, Option, Some, None}
 use Rattle.std.specs.List.{list_any}
 use Rattle.edid_base.specs.declared.base.Base.{Base}
 use Rattle.edid_base.specs.declared.base.Revision.{Revision}
@@ -8,6 +8,10 @@ use Rattle.edid_base.specs.declared.descriptor.Descriptor.{Descriptor}
 use Rattle.edid_base.specs.declared.descriptor.Descriptor.TheVariants.{Range}
 use Rattle.edid_base.specs.declared.standard.StandardTiming.{StandardTiming}
 use Rattle.edid_cta.specs.declared.raw.Ext.{Ext}
+use Rattle.edid_displayid.specs.Formats.{typed_formats}
+use Rattle.edid_displayid.specs.declared.timing.TypedFormat.{TypedFormat}
+use Rattle.edid_displayid.specs.declared.timing.TypedFormat.TheVariants.{Timing, Code}
+use Rattle.edid_displayid.specs.declared.timing.TypedTiming.{TypedTiming}
 use Rattle.rules_values.specs.VideoCodes.{video_codes}
 use Rattle.rules_rates.specs.Limits.{field_span, line_span, limits_rates, is_over, is_outside, is_out_of_range}
 use Rattle.rules_rates.specs.Paces.{pace_of}
@@ -91,8 +95,26 @@ abbrev pub is_standard_outside : Base → Option StandardTiming → Bool
 is_standard_outside b None = false
 is_standard_outside b (Some s) = nat_lt 256 s.width && list_any (excludes_standard b.revision s) b.descriptors
 
+-- ---- formats of DisplayID
+
+-- A picture of two fields has no pace, since its lines are not known to be those of a field or of both; nor has one whose clock has 2 ^ 32
+-- kHz, whose line has more than 65,535 pixels, or whose picture more than 32,767 lines (own).
+abbrev pub is_paced : TypedTiming → Bool
+is_paced t = not t.is_interlaced && nat_le t.clock 4294967295 && nat_le t.pixels 65535 && nat_le t.lines 32767
+
+abbrev pub timing_pace_of : TypedTiming → Option Pace
+timing_pace_of t = if is_paced t then Some (record { clock = t.clock; pixels = t.pixels; half_lines = 2 * t.lines }) else None
+
+abbrev pub typed_pace : TypedFormat → Option Pace
+typed_pace (Timing t) = timing_pace_of t
+typed_pace (Code code) = pace_of code
+
+abbrev pub is_typed_outside : Base → TypedFormat → Bool
+is_typed_outside b f = is_known_outside b (typed_pace f)
+
 -- ---- all of them
 
 abbrev pub has_format_outside : Base → List Ext → Bool
 has_format_outside b xs =
-    list_any (is_code_outside b) (video_codes xs) || (some_established_outside b || list_any (is_standard_outside b) b.standard)
+    list_any (is_code_outside b) (video_codes xs) ||
+    (some_established_outside b || (list_any (is_standard_outside b) b.standard || list_any (is_typed_outside b) (typed_formats xs)))

@@ -1,7 +1,7 @@
 //! The formats of an EDID beside its detailed timings, and whether one is outside the range limits.
 ghost use Rattle.std.specs.Prelude.{◌≡◌, ◌≤◌, ◌<◌, length};
 ghost use Rattle.std.specs.List.{list_any};
-ghost use Rattle.rules_rates.specs.Formats.{is_known_outside, is_code_outside, established_paces, established_bits, is_established_outside, some_bit_outside, some_established_outside, standard_height, picture_lines, has_too_many_lines, excludes_standard, is_standard_outside, has_format_outside};
+ghost use Rattle.rules_rates.specs.Formats.{is_known_outside, is_code_outside, established_paces, established_bits, is_established_outside, some_bit_outside, some_established_outside, standard_height, picture_lines, has_too_many_lines, excludes_standard, is_standard_outside, is_paced, timing_pace_of, typed_pace, is_typed_outside, has_format_outside};
 
 use crate::limits::{field_span, is_out_of_range, is_outside, is_over, limits_rates, line_span};
 use crate::pace::Pace;
@@ -9,10 +9,17 @@ use crate::paces::pace_of;
 use crate::span::RateSpan;
 use edid_base::{Base, Descriptor, Revision, StandardTiming};
 use edid_cta::Ext;
+use edid_displayid::{TypedFormat, TypedTiming, typed_formats};
 use rules_values::video_codes;
 
 /// A standard timing of this width and less stands for none.
 const UNUSED_WIDTH: u16 = 256;
+/// The fastest clock in kHz, the most pixels of a line, and the most lines of a picture, that have a pace.
+const MOST_CLOCK: u64 = 4_294_967_295;
+
+const MOST_PIXELS: u64 = 65_535;
+
+const MOST_LINES: u64 = 32_767;
 /// The lines of a kHz.
 pub const LINES: u64 = 1000;
 
@@ -178,7 +185,52 @@ fn some_standard_outside(base: &Base) -> bool
         .any(|standard| is_standard_outside(base, *standard))
 }
 
-/// Whether a video code, an established timing or a standard timing is outside the range limits.
+fn is_paced(timing: TypedTiming) -> bool
+    ensures { result ≡ is_paced timing }
+{
+    !timing.is_interlaced
+        && timing.clock <= MOST_CLOCK
+        && timing.pixels <= MOST_PIXELS
+        && timing.lines <= MOST_LINES
+}
+
+fn timing_pace_of(timing: TypedTiming) -> Option<Pace>
+    ensures { result ≡ timing_pace_of timing }
+{
+    if is_paced(timing) {
+        Some(Pace {
+            clock: timing.clock as u32,
+            pixels: timing.pixels as u16,
+            half_lines: 2 * timing.lines as u16,
+        })
+    } else {
+        None
+    }
+}
+
+/// How fast a format of DisplayID is, where that is known.
+pub fn typed_pace(format: TypedFormat) -> Option<Pace>
+    ensures { result ≡ typed_pace format }
+{
+    match format {
+        TypedFormat::Timing(timing) => timing_pace_of(timing),
+        TypedFormat::Code(code) => pace_of(code),
+    }
+}
+
+fn is_typed_outside(base: &Base, format: TypedFormat) -> bool
+    ensures { result ≡ is_typed_outside base.now format }
+{
+    is_known_outside(base, typed_pace(format))
+}
+
+fn some_typed_outside(base: &Base, formats: &[TypedFormat]) -> bool
+    ensures { result ≡ list_any (is_typed_outside base.now) formats.now }
+{
+    formats.iter().any(|format| is_typed_outside(base, *format))
+}
+
+/// Whether a video code, an established timing, a standard timing or a format of DisplayID is outside the range limits.
 pub fn has_format_outside(base: &Base, extensions: &[Ext]) -> bool
     requires { length extensions.now ≤ 3 }
     ensures { result ≡ has_format_outside base.now extensions.now }
@@ -186,4 +238,5 @@ pub fn has_format_outside(base: &Base, extensions: &[Ext]) -> bool
     some_code_outside(base, video_codes(extensions).as_slice())
         || some_established_outside(base)
         || some_standard_outside(base)
+        || some_typed_outside(base, typed_formats(extensions).as_slice())
 }

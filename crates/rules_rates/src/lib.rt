@@ -10,7 +10,7 @@ mod span;
 
 pub use formats::{
     BitPace, ESTABLISHED, LINES, established_bits, has_format_outside, has_too_many_lines,
-    is_code_outside, is_established_outside, is_standard_outside, picture_lines,
+    is_code_outside, is_established_outside, is_standard_outside, picture_lines, typed_pace,
 };
 pub use limits::{
     CLOCK_UNIT, HALF_LINE_CLOCK, field_span, has_reversed_limits, is_clock_above, is_out_of_range,

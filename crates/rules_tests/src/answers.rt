@@ -4,7 +4,7 @@ use crate::displays::bytes_of;
 use crate::explains::{EXPLAINED, HINTED, explained, hinted};
 use crate::links::LINKS;
 use crate::rules::{IN_PORTS, NATIVES, RULES};
-use crate::timings::{ESTABLISHED, TIMINGS};
+use crate::timings::{ESTABLISHED, FORMATS, TIMINGS};
 use crate::ways::{
     ADDRESSES, FRONTS, PASSED, address_reported, fronts_reported, passed_checked, passed_reported,
 };
@@ -56,6 +56,7 @@ fn each_rule_is_broken_alone_and_just_kept(rt: HostRuntime) {
     are_checked(&rt, RULES);
     are_checked(&rt, NATIVES);
     are_checked(&rt, TIMINGS);
+    are_checked(&rt, FORMATS);
     are_checked(&rt, ESTABLISHED);
     are_checked(&rt, EXTENSIONS);
     are_checked(&rt, BLOCKS);

@@ -23,7 +23,13 @@ tv 128=10 => none
 tv 128=40 => none
 tv 128=50 => none
 tv 128=60 => none
-tv 128=70 => none
+tv 128=70 => fail displayid-checksum;
+tv 128=7012000300eb => none
+tv 128=7012000300ea => fail displayid-checksum;
+tv 128=7012030300000000e8 => none
+tv 128=7012030300000000e9 => fail displayid-checksum;
+tv 128=70127a0300 => fail displayid-checksum;
+tv 128=7112000300ea => warn unknown-extension;
 tv 128=f0 => none
 tv 128=ff => none
 tv base map other 256=01 => warn unknown-extension;

@@ -1,7 +1,8 @@
 //! The rule for what a link carries.
 
 /// What is changed in the television, and the lines of what is then wrong, with `;` for each line feed. Its HDMI block gives no clock, and
-/// limits of 0 limit nothing. In 1.4 the low digit of the input is 2 for HDMI, 1 for DVI and 5 for DisplayPort. Codes 84, 85, 63, 97, 118 and 199 have clocks of 165, 198, 297, 594, 1188 and 2376 MHz; 117 has that of 118 and
+/// limits of 0 limit nothing. In 1.4 the low digit of the input is 2 for HDMI, 1 for DVI and 5 for DisplayPort. The monitor timings 33 and 34 have 162 and 175.5
+/// MHz; 1920x1200 at 60 Hz by CVT with reduced blanking of version 2 has 148.2 MHz, 2560x1440 has 234.59. Codes 84, 85, 63, 97, 118 and 199 have clocks of 165, 198, 297, 594, 1188 and 2376 MHz; 117 has that of 118 and
 /// longer lines, 198 that of 199.
 pub(crate) const LINKS: &str = "\
 tv 113=0000000000 136=54 => none
@@ -50,4 +51,16 @@ tv 113=0000000000 154=7540801871382d40582c450008222100001e => fail timing 3 link
 tv 113=0000000000 130=22 54=60ea 154=67d85dc401780000 => none
 tv 113=0000000000 130=22 54=61ea 154=67d85dc401780000 => fail timing 1 link-clock;
 tv 113=0000000000 130=22 54=61ea 154=67d85dc401788020 => none
+tv 113=0000000000 130=31 154=f62200878402047f07170157802b0037042c0003800400 => none
+tv 113=0000000000 130=31 154=f62200888402047f07170157802b0037042c0003800400 => fail link-clock;
+tv 113=0000000000 118=01 19=04 20=a5 54=7540 130=31 154=f62200888402047f07170157802b0037042c0003800400 => warn hdmi-of-1.3;
+tv 113=0000000000 130=1e 154=e3230033 => none
+tv 113=0000000000 130=1e 154=e3230034 => fail link-clock;
+tv 113=0000000000 130=23 154=e82a00027f07af043b => none
+tv 113=0000000000 130=23 154=e82a0002ff099f053b => fail link-clock;
+tv 113=0000000000 136=55 130=1e 154=e3230034 => fail link-clock;
+tv other 113=0000000000 256=70200403002300013382 => fail block-map;
+tv other 113=0000000000 256=70200403002300013481 => fail block-map;fail link-clock;
+tv other 113=0000000000 256=70200403002340015421 => fail block-map;
+tv other 113=0000000000 256=70200403002340015520 => fail block-map;fail link-clock;
 ";

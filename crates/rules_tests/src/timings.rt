@@ -58,7 +58,51 @@ tv 19=04 146=04 118=01 112=03 => warn out-of-range;warn timing 1 out-of-range;wa
 tv 19=04 146=04 118=01 112=08 116=00 => none
 tv 19=04 146=04 118=01 112=0c => warn out-of-range;warn timing 1 out-of-range;warn timing 2 out-of-range;
 tv 154=e703801871382d40582c450008222100001e => fail timing 3 clock;fail timing 3 out-of-range;
+tv 130=31 154=f62200f65002047f07170157802b0037042c0003800400 => none
+tv 130=31 154=f62200f75002047f07170157802b0037042c0003800400 => fail out-of-range;
+tv 130=31 154=f62200f75002147f07170157802b0037042c0003800400 => none
+tv 130=30 154=f52200f75002047f07170157802b0037042c00038004 => none
+tv 130=31 154=f62300f75002047f07170157802b0037042c0003800400 => fail out-of-range;fail link-clock;
 tv 154=023a801871382d40582c450012222100001e => fail timing 3 size-differs;
+";
+
+/// The same of formats of DisplayID. 1920x1080 at 60 Hz by CVT with reduced blanking of version 2 has 66.66 kHz, 1920x1200 has 74.1 kHz; the
+/// monitor timings 04, 52 and 44 have 31.469, 67.5 and 74.038 kHz. Timings of types I, II, VI and VII have 2200 pixels and 1125 lines, at 151.79
+/// MHz and less below 69 kHz; 1600x1200 by CVT has 74.5 kHz. A DisplayID extension stands in the place of the other one, with no link to go by.
+pub(crate) const FORMATS: &str = "\
+tv 130=1e 154=e3230052 => none
+tv 130=1e 154=e3230044 => fail out-of-range;
+tv 130=1f 154=e423005244 => fail out-of-range;
+tv 130=1e 154=e3234044 => none
+tv 130=1f 154=e423080044 => none
+tv 130=1c 154=e12a => none
+tv 130=23 154=e82a00027f0737043b => none
+tv 130=23 154=e82a00027f07af043b => fail out-of-range;
+tv 130=23 154=e82a00037f07af043b => none
+tv 130=24 154=e92a10027f02df012b00 => none
+tv 130=24 154=e92a10027f02df012b01 => fail out-of-range;
+tv 130=32 154=f72210f75002047f07170157802b0037042c000380040000 => fail out-of-range;
+tv 128=70131703000300144a3b00047f07170157802b0037042c0003800400a5 => none
+tv 128=70131703000300144b3b00047f07170157802b0037042c0003800400a4 => fail out-of-range;
+tv 128=70130e030004000b4a3b0000ef445337042c2437 => none
+tv 128=70130e030004000b4b3b0000ef445337042c2436 => fail out-of-range;
+tv 128=70130e030004000b4b3b0010ef445337042c2426 => none
+tv 128=7013060300050003027f3b20 => none
+tv 128=701306030005000302c73bd8 => fail out-of-range;
+tv 128=701306030005000332c73ba8 => none
+tv 128=7013050300060002045287 => none
+tv 128=701306030006000304524441 => fail out-of-range;
+tv 128=701305030006400210612c => fail out-of-range;
+tv 128=70130a030011000700007f0737043bcc => none
+tv 128=70130a030011000700007f07af043b54 => fail out-of-range;
+tv 128=70130a030011000701007f07af043b53 => none
+tv 128=701311030013000ef650027f073704172f011f2c020417 => none
+tv 128=701311030013000ef750027f073704172f011f2c020416 => fail out-of-range;
+tv 128=701311030013000ef750027f073704172f011f2c028496 => none
+tv 128=702009030024000600ff03ff023b6c => none
+tv 128=7020090300240006017f07af043b35 => fail out-of-range;
+tv 128=70200903002a0006027f07af043b2e => fail out-of-range;
+tv 128=7020090300320006027f07af043b26 => fail out-of-range;
 ";
 
 /// The same of each established timing alone (VESA DMT, and the makers' own): limits of its field and line rate, cut to whole Hz and

@@ -5,12 +5,12 @@ use Rattle.std.specs.Str.{bytes_eq}
 use Rattle.std.proofs.lemmas.Slice.Eq.{bytes_eq-Decides}
 use Rattle.std.proofs.lemmas.Bool.Decides.{nat_tests}
 use Rattle.text_core.proofs.KindWords.{kind_read_again}
-use Rattle.text_forms.specs.Forms.{Meaning, Place, fault_in, fits, is_itself, is_rest, is_whole, meaning_of, meanings_of, most_fitting, read_of, row_of, turn_of}
+use Rattle.text_forms.specs.Forms.{Meaning, Place, fault_in, fits, is_itself, is_rest, is_whole, may_be, meaning_of, meanings_of, most_fitting, read_of, row_of, turn_of}
 use Rattle.text_forms.specs.Forms.Meaning.{Itself, Number, PortOf, PortsOf, Level, KindOf, Text, Words}
 use Rattle.text_forms.specs.Laws.{ReadsBack, all_apart, are_apart, are_values_of, differ, is_value_of, word_for, words_for}
 use Rattle.text_forms.specs.declared.form.Slot.{Slot}
 use Rattle.text_forms.specs.declared.form.Slot.TheVariants as slots
-use Rattle.text_forms.proofs.Numbers.{number_again}
+use Rattle.text_forms.proofs.Numbers.{byte_again, number_again}
 
 -- ---- Bool
 
@@ -30,9 +30,9 @@ not_so : (a : Bool) → not a ≡ true → a ≡ false
 not_so true h = absurd (true≢false (sym h))
 not_so false h = refl
 
-if_true : (a b : Bool) → a ≡ true → (if a then b else true) ≡ true → b ≡ true
-if_true true b e h = h
-if_true false b e h = absurd (true≢false (sym e))
+if_true : (a b c : Bool) → a ≡ true → (if a then b else c) ≡ true → b ≡ true
+if_true true b c e h = h
+if_true false b c e h = absurd (true≢false (sym e))
 
 or_second : (a b : Bool) → a ≡ false → (a || b) ≡ true → b ≡ true
 or_second true b e h = absurd (true≢false e)
@@ -51,6 +51,9 @@ small n limit h few = grind (arith, nat_tests)
 
 under : (n limit : ℕ) → nat_le n limit ≡ true → nat_lt limit n ≡ false
 under n limit h = grind (arith, nat_tests)
+
+least_byte : (n : ℕ) → nat_le n 255 ≡ true → n < 256
+least_byte n h = grind (arith, nat_tests)
 
 least : (n limit : ℕ) → nat_le n limit ≡ true → min n limit ≡ n
 least n limit h = grind (arith, nat_tests)
@@ -154,6 +157,14 @@ again t slots.Text (Level l) h = absurd (true≢false (sym h))
 again t slots.Text (KindOf k) h = absurd (true≢false (sym h))
 again t slots.Text (Text w) h = refl
 again t slots.Text (Words ws) h = absurd (true≢false (sym h))
+again t slots.Opcode Itself h = absurd (true≢false (sym h))
+again t slots.Opcode (Number n) h = rw (byte_again n (least_byte n h)) refl
+again t slots.Opcode (PortOf n) h = absurd (true≢false (sym h))
+again t slots.Opcode (PortsOf n) h = absurd (true≢false (sym h))
+again t slots.Opcode (Level l) h = absurd (true≢false (sym h))
+again t slots.Opcode (KindOf k) h = absurd (true≢false (sym h))
+again t slots.Opcode (Text w) h = absurd (true≢false (sym h))
+again t slots.Opcode (Words ws) h = absurd (true≢false (sym h))
 again t slots.Rest m h = absurd (true≢false (sym h))
 
 no_rest : (slot : Slot) (m : Meaning) → is_value_of slot m ≡ true → is_rest slot ≡ false
@@ -168,10 +179,11 @@ no_rest slots.Ports m h = refl
 no_rest slots.Level m h = refl
 no_rest slots.Switch m h = refl
 no_rest slots.Kind m h = refl
+no_rest slots.Opcode m h = refl
 no_rest slots.Text m h = refl
 no_rest slots.Rest m h = absurd (true≢false (sym h))
 
-fits_own : (t : List ℕ) (slot : Slot) (m : Meaning) → is_value_of slot m ≡ true → (if is_itself slot then bytes_eq t (word_for t slot m) else true) ≡ true
+fits_own : (t : List ℕ) (slot : Slot) (m : Meaning) → is_value_of slot m ≡ true → (if is_itself slot then bytes_eq t (word_for t slot m) else may_be slot (word_for t slot m)) ≡ true
 fits_own t slots.Word Itself h = bytes_eq_self t
 fits_own t slots.Word (Number n) h = absurd (true≢false (sym h))
 fits_own t slots.Word (PortOf n) h = absurd (true≢false (sym h))
@@ -197,6 +209,14 @@ fits_own t slots.Ports m h = refl
 fits_own t slots.Level m h = refl
 fits_own t slots.Switch m h = refl
 fits_own t slots.Kind m h = refl
+fits_own t slots.Opcode Itself h = absurd (true≢false (sym h))
+fits_own t slots.Opcode (Number n) h = rw (byte_again n (least_byte n h)) refl
+fits_own t slots.Opcode (PortOf n) h = absurd (true≢false (sym h))
+fits_own t slots.Opcode (PortsOf n) h = absurd (true≢false (sym h))
+fits_own t slots.Opcode (Level l) h = absurd (true≢false (sym h))
+fits_own t slots.Opcode (KindOf k) h = absurd (true≢false (sym h))
+fits_own t slots.Opcode (Text w) h = absurd (true≢false (sym h))
+fits_own t slots.Opcode (Words ws) h = absurd (true≢false (sym h))
 fits_own t slots.Text m h = refl
 fits_own t slots.Rest m h = refl
 
@@ -235,8 +255,8 @@ clash : (p q : Place) (w : List ℕ) → differ p q ≡ true → fits p w ≡ tr
 clash p q w d l r =
     let one = and_both (is_itself p.0) (is_itself q.0 && not (bytes_eq p.1 q.1)) d in
     let two = and_both (is_itself q.0) (not (bytes_eq p.1 q.1)) one.1 in
-    let left : p.1 ≡ w = (bytes_eq-Decides p.1 w).0 (if_true (is_itself p.0) (bytes_eq p.1 w) one.0 l) in
-    let right : q.1 ≡ w = (bytes_eq-Decides q.1 w).0 (if_true (is_itself q.0) (bytes_eq q.1 w) two.0 r) in
+    let left : p.1 ≡ w = (bytes_eq-Decides p.1 w).0 (if_true (is_itself p.0) (bytes_eq p.1 w) (may_be p.0 w) one.0 l) in
+    let right : q.1 ≡ w = (bytes_eq-Decides q.1 w).0 (if_true (is_itself q.0) (bytes_eq q.1 w) (may_be q.0 w) two.0 r) in
     true≢false (sym ((bytes_eq-Decides p.1 q.1).1 (left ∙ sym right)) ∙ not_so (bytes_eq p.1 q.1) two.1)
 
 not_both : (ps qs : List Place) (ws : List (List ℕ)) → are_apart ps qs ≡ true → is_whole ps ws ≡ true → is_whole qs ws ≡ true → ⊥

@@ -1,14 +1,15 @@
 -- Forms of lines (own). A form is a row of places. The table of the forms is the code's.
-use Rattle.std.specs.Prelude.{ℕ, ◌+◌, ◌==◌, ◌&&◌, ◌||◌, Bool, true, false, if◌then◌else◌, codes, List, [], ◌∷◌, get_or, map, max, min, Option, Some, None, option_map, is_none, Result, Ok, Err}
+use Rattle.std.specs.Prelude.{ℕ, ◌+◌, ◌==◌, ◌&&◌, ◌||◌, Bool, true, false, if◌then◌else◌, codes, List, [], ◌∷◌, get_or, length, map, max, min, Option, Some, None, option_map, is_none, is_some, Result, Ok, Err}
 use Rattle.std.specs.Str.{bytes_eq}
 use Rattle.text_core.specs.At.{at_word}
 use Rattle.text_core.specs.declared.at.AtWord.{AtWord}
+use Rattle.text_core.specs.Hex.{hex_byte}
 use Rattle.text_core.specs.Kind.{kind_named}
 use Rattle.text_core.specs.declared.kind.Kind.{Kind}
 use Rattle.text_core.specs.declared.kind.Kind.TheVariants.{Tv}
 use Rattle.text_core.specs.Number.{number_of}
 use Rattle.text_core.specs.Words.{words_of}
-use Rattle.text_forms.specs.Limits.{at_most, last_port, latest, most_ports}
+use Rattle.text_forms.specs.Limits.{at_most, last_byte, last_port, latest, most_ports}
 use Rattle.text_forms.specs.declared.form.Slot.{Slot}
 use Rattle.text_forms.specs.declared.form.Slot.TheVariants as slots
 use Rattle.text_forms.specs.declared.form.LineCause.{LineCause}
@@ -32,8 +33,13 @@ abbrev pub is_rest : Slot → Bool
 is_rest slots.Rest = true
 is_rest _ = false
 
+-- a word that is no opcode does not fit one; what else has no value fits, and is at fault
+abbrev pub may_be : Slot → List ℕ → Bool
+may_be slots.Opcode word = is_some (hex_byte word)
+may_be _ word = true
+
 abbrev pub fits : Place → List ℕ → Bool
-fits place word = if is_itself place.0 then bytes_eq place.1 word else true
+fits place word = if is_itself place.0 then bytes_eq place.1 word else may_be place.0 word
 
 -- so many words from the left
 unfoldable pub fitting : List Place → List (List ℕ) → ℕ
@@ -47,6 +53,16 @@ is_whole [] [] = true
 is_whole [] (word ∷ words) = false
 is_whole (place ∷ others) [] = false
 is_whole (place ∷ others) (word ∷ words) = fits place word && (is_rest place.0 || is_whole others words)
+
+-- a word that a form has itself is as long as the line's; such words are as many, unless the form takes all that stands
+abbrev pub is_as_long : Place → List ℕ → Bool
+is_as_long place word = if is_itself place.0 then length place.1 == length word else true
+
+unfoldable pub are_as_long : List Place → List (List ℕ) → Bool
+are_as_long [] [] = true
+are_as_long [] (word ∷ words) = false
+are_as_long (place ∷ others) [] = false
+are_as_long (place ∷ others) (word ∷ words) = is_as_long place word && (is_rest place.0 || are_as_long others words)
 
 unfoldable pub most_fitting : {V : Type 0} → List (V × List Place) → List (List ℕ) → ℕ
 most_fitting [] words = 0
@@ -83,6 +99,7 @@ meaning_of slots.Key word = Some Itself
 meaning_of slots.Switch word = option_map Level (switch_of word)
 meaning_of slots.Time word = option_map Number (at_most latest (number_of word))
 meaning_of slots.LateTime word = option_map Number (at_most latest (number_of word))
+meaning_of slots.Opcode word = option_map Number (hex_byte word)
 meaning_of slots.Number word = option_map Number (number_of word)
 meaning_of slots.Port word = option_map PortOf (option_map (λ n. min n last_port) (number_of word))
 meaning_of slots.KeyPort word = option_map PortOf (option_map (λ n. min n last_port) (number_of word))
@@ -187,6 +204,11 @@ abbrev pub number_of_meaning : Meaning → ℕ
 number_of_meaning (Number n) = n
 number_of_meaning _ = 0
 
+-- (no word says a greater byte)
+abbrev pub byte_of_meaning : Meaning → ℕ
+byte_of_meaning (Number n) = min n last_byte
+byte_of_meaning _ = 0
+
 -- (no word says a later time)
 abbrev pub time_of_meaning : Meaning → ℕ
 time_of_meaning (Number n) = min n latest
@@ -237,6 +259,9 @@ kind_at values place = kind_of_meaning (get_or values place Itself)
 
 abbrev pub number_at : List Meaning → ℕ → ℕ
 number_at values place = number_of_meaning (get_or values place Itself)
+
+abbrev pub byte_at : List Meaning → ℕ → ℕ
+byte_at values place = byte_of_meaning (get_or values place Itself)
 
 abbrev pub time_at : List Meaning → ℕ → ℕ
 time_at values place = time_of_meaning (get_or values place Itself)

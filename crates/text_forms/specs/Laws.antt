@@ -4,8 +4,9 @@ use Rattle.std.specs.Fmt.{decimal}
 use Rattle.std.specs.List.{list_all}
 use Rattle.std.specs.Str.{bytes_eq}
 use Rattle.text_core.specs.Kind.{kind_word}
+use Rattle.text_core.specs.Piece.{hex_text}
 use Rattle.text_forms.specs.Forms.{Meaning, Place, is_itself, is_rest, line_of}
-use Rattle.text_forms.specs.Limits.{last_port, latest, most_ports}
+use Rattle.text_forms.specs.Limits.{last_byte, last_port, latest, most_ports}
 use Rattle.text_forms.specs.Forms.Meaning.{Itself, Number, PortOf, PortsOf, Level, KindOf, Text, Words}
 use Rattle.text_forms.specs.declared.form.Slot.{Slot}
 use Rattle.text_forms.specs.declared.form.Slot.TheVariants as slots
@@ -20,6 +21,7 @@ is_value_of slots.Key Itself = true
 is_value_of slots.Time (Number n) = nat_le n latest
 is_value_of slots.LateTime (Number n) = nat_le n latest
 is_value_of slots.Number (Number n) = nat_lt n (2 ^ 64)
+is_value_of slots.Opcode (Number n) = nat_le n last_byte
 is_value_of slots.Port (PortOf n) = nat_le n last_port
 is_value_of slots.KeyPort (PortOf n) = nat_le n last_port
 is_value_of slots.Ports (PortsOf n) = nat_le n most_ports
@@ -41,10 +43,14 @@ level_word slots.Switch true = codes "on"
 level_word _ false = codes "0"
 level_word _ true = codes "1"
 
+abbrev pub number_word : Slot → ℕ → List ℕ
+number_word slots.Opcode n = hex_text n
+number_word _ n = decimal n
+
 -- the word of a value
 abbrev pub word_for : List ℕ → Slot → Meaning → List ℕ
 word_for text slot Itself = text
-word_for text slot (Number n) = decimal n
+word_for text slot (Number n) = number_word slot n
 word_for text slot (PortOf n) = decimal n
 word_for text slot (PortsOf n) = decimal n
 word_for text slot (Level is) = level_word slot is

@@ -1,12 +1,15 @@
--- The limits of numbers in texts (own): the latest instant in microseconds, the most ports of a device, and what a port above it counts as.
+-- The limits of numbers in texts (own): the latest instant in microseconds, the greatest byte, the most ports of a device, and what a port above it counts as.
 use Rattle.std.specs.Prelude.{ℕ, nat_lt, if◌then◌else◌, Option, Some, None}
-use Rattle.text_forms.specs.declared.limits.TheConstants.{LAST_PORT, LATEST, MOST_PORTS}
+use Rattle.text_forms.specs.declared.limits.TheConstants.{LAST_BYTE, LAST_PORT, LATEST, MOST_PORTS}
 
 abbrev pub latest : ℕ
 latest = LATEST
 
 abbrev pub most_ports : ℕ
 most_ports = MOST_PORTS
+
+abbrev pub last_byte : ℕ
+last_byte = LAST_BYTE
 
 abbrev pub last_port : ℕ
 last_port = LAST_PORT

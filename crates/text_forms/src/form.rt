@@ -2,10 +2,10 @@
 ghost use Rattle.std.specs.Prelude.{◌≡◌, ◌≤◌, length, map};
 ghost use Rattle.std.specs.Option.{option_copied};
 ghost use Rattle.text_core.specs.Words.{words_after, words_of};
-ghost use Rattle.text_forms.specs.Forms.{cause_of, fits, fitting, is_whole, most_fitting, turn_of};
+ghost use Rattle.text_forms.specs.Forms.{are_as_long, cause_of, fits, fitting, is_as_long, is_whole, most_fitting, turn_of};
 
 use crate::value::value_in;
-use text_core::first_word;
+use text_core::{first_word, hex_byte};
 
 /// What stands at a place of a form.
 #[derive(Clone, Copy, Debug, PartialEq, Eq)]
@@ -32,6 +32,8 @@ pub enum Slot {
     Switch,
     /// A kind of device.
     Kind,
+    /// An opcode: a byte in two hex digits. A line with another word here has another form.
+    Opcode,
     /// Any word. The caller says what it means.
     Text,
     /// All that stands from here on, at least one word.
@@ -53,8 +55,13 @@ impl Slot {
         ensures { result ≡ cause_of self }
     {
         match self {
-            Slot::Word | Slot::Key | Slot::Switch | Slot::Kind | Slot::Text | Slot::Rest =>
-                LineCause::Word,
+            Slot::Word
+            | Slot::Key
+            | Slot::Switch
+            | Slot::Kind
+            | Slot::Opcode
+            | Slot::Text
+            | Slot::Rest => LineCause::Word,
             Slot::Time
             | Slot::LateTime
             | Slot::Number
@@ -70,7 +77,13 @@ impl Slot {
         ensures { result ≡ turn_of self }
     {
         match self {
-            Slot::Word | Slot::Key | Slot::Switch | Slot::Kind | Slot::Text | Slot::Rest => 0,
+            Slot::Word
+            | Slot::Key
+            | Slot::Switch
+            | Slot::Kind
+            | Slot::Opcode
+            | Slot::Text
+            | Slot::Rest => 0,
             Slot::KeyPort => 1,
             Slot::Time | Slot::Number | Slot::Port | Slot::Ports | Slot::Level => 2,
             Slot::LateTime => 3,
@@ -83,6 +96,7 @@ fn fits(place: (Slot, &str), word: &[u8]) -> bool
 {
     match place.0 {
         Slot::Word | Slot::Key => place.1.as_bytes() == word,
+        Slot::Opcode => hex_byte(word).is_some(),
         _ => true,
     }
 }
@@ -125,9 +139,35 @@ pub(crate) fn is_whole(form: &[(Slot, &str)], line: Option<&[u8]>) -> bool
     fits(*place, word) && (place.0 == Slot::Rest || is_whole(others, after))
 }
 
-/// Whether these words are those of a form.
+fn is_as_long(place: (Slot, &str), word: &[u8]) -> bool
+    ensures { result ≡ is_as_long (place.entry.0, place.entry.1.now) word.now }
+{
+    match place.0 {
+        Slot::Word | Slot::Key => place.1.as_bytes().len() == word.len(),
+        _ => true,
+    }
+}
+
+// Whether these words are as many as those of a form, and as long where it has words of its own.
+#[tactic(auto, unfolding(crate::specs::Forms::are_as_long))]
+fn are_as_long(form: &[(Slot, &str)], words: &[&[u8]]) -> bool
+    ensures { result ≡ are_as_long (map (λ p. (p.0, p.1.now)) form.now) (map (λ w. w.now) words.now) }
+{
+    let [word, others @ ..] = words else {
+        return match form {
+            [_first, _others @ ..] => false,
+            _ => true,
+        };
+    };
+    let [place, places @ ..] = form else {
+        return false;
+    };
+    is_as_long(*place, word) && (place.0 == Slot::Rest || are_as_long(places, others))
+}
+
+// Whether these words are those of a form, byte by byte.
 #[tactic(auto, unfolding(crate::specs::Forms::is_whole))]
-pub(crate) fn are_whole(form: &[(Slot, &str)], words: &[&[u8]]) -> bool
+fn are_same(form: &[(Slot, &str)], words: &[&[u8]]) -> bool
     ensures { result ≡ is_whole (map (λ p. (p.0, p.1.now)) form.now) (map (λ w. w.now) words.now) }
 {
     let [word, others @ ..] = words else {
@@ -139,7 +179,19 @@ pub(crate) fn are_whole(form: &[(Slot, &str)], words: &[&[u8]]) -> bool
     let [place, places @ ..] = form else {
         return false;
     };
-    fits(*place, word) && (place.0 == Slot::Rest || are_whole(places, others))
+    fits(*place, word) && (place.0 == Slot::Rest || are_same(places, others))
+}
+
+/// Whether these words are those of a form. Their lengths, which leave few forms, are compared before their bytes.
+#[tactic(auto, using(crate::proofs::Lengths::none_whole))]
+pub(crate) fn are_whole(form: &[(Slot, &str)], words: &[&[u8]]) -> bool
+    ensures { result ≡ is_whole (map (λ p. (p.0, p.1.now)) form.now) (map (λ w. w.now) words.now) }
+{
+    if are_as_long(form, words) {
+        are_same(form, words)
+    } else {
+        false
+    }
 }
 
 /// The most words of a line that fit one of some forms. The word after them is the first that fits none.

@@ -10,6 +10,6 @@ mod value;
 
 pub use form::{LineCause, Slot, fitting, fitting_said, most_fitting};
 pub use laws::values_read_back;
-pub use limits::{LAST_PORT, LATEST, MOST_PORTS};
+pub use limits::{LAST_BYTE, LAST_PORT, LATEST, MOST_PORTS};
 pub use read::{FormLine, read_line};
 pub use value::Value;

@@ -3,13 +3,16 @@ ghost use Rattle.std.specs.Prelude.{◌≡◌, ◌+◌, ◌≤◌, get_or, map, 
 ghost use Rattle.std.specs.Option.{IfSome, option_copied, option_map};
 ghost use Rattle.text_core.specs.Words.{words_of, words_after};
 ghost use Rattle.text_forms.specs.Limits.{latest, most_ports};
-ghost use Rattle.text_forms.specs.Forms.{Itself, fault_in, lacks_value, line_of, meanings_of, meant, kind_at, level_at, late_time_at, number_at, port_at, ports_at, read_by, read_of, row_of, said, text_at, time_at, value_or, values_of, words_at};
+ghost use Rattle.text_forms.specs.Forms.{Itself, byte_at, fault_in, lacks_value, line_of, meanings_of, meant, kind_at, level_at, late_time_at, number_at, port_at, ports_at, read_by, read_of, row_of, said, text_at, time_at, value_or, values_of, words_at};
 
 use crate::form::{LineCause, Slot, are_whole, is_whole, most_fitting};
-use crate::limits::{LATEST, MOST_PORTS};
+use crate::limits::{LAST_BYTE, LATEST, MOST_PORTS};
 use crate::value::{Value, value_in};
 use arrayvec::ArrayVec;
 use text_core::{AtWord, Kind, at_word, first_word};
+
+/// The most words of a line that are kept apart.
+const MOST_WORDS: usize = 16;
 
 /// A line, the form that it has, and what the form stands for. Each place has its value.
 #[derive(Clone, Copy)]
@@ -115,15 +118,31 @@ fn read_in_turns<'t, V: Copy>(
     })
 }
 
+// Whether one of these words, those of a form, has no value.
+#[tactic(auto, unfolding(crate::specs::Forms::lacks_value))]
+fn lack_value(form: &[(Slot, &str)], words: &[&[u8]]) -> bool
+    ensures { result ≡ lacks_value (map (λ p. (p.0, p.1.now)) form.now) (map (λ w. w.now) words.now) }
+{
+    let [place, places @ ..] = form else {
+        return false;
+    };
+    let [word, others @ ..] = words else {
+        return false;
+    };
+    value_in(place.0, word).is_none() || lack_value(places, others)
+}
+
 // Reads a line that has the words of a form. Where each place has a value there is no fault of any turn.
 fn read_by<'t, V: Copy>(
     verb: V,
     form: &'t [(Slot, &'t str)],
     line: &'t [u8],
+    lacks: bool,
 ) -> Result<FormLine<'t, V>, AtWord<LineCause>>
+    requires { lacks ≡ lacks_value (map (λ p. (p.0, p.1.now)) form.now) (words_of line.now) }
     ensures { said result ≡ read_by verb (map (λ p. (p.0, p.1.now)) form.now) (words_of line.now) }
 {
-    if lacks_value(form, Some(line)) {
+    if lacks {
         return read_in_turns(verb, form, line);
     }
     Ok(FormLine {
@@ -170,7 +189,7 @@ fn form_of_words<'t, V: Copy>(
 }
 
 // The words of a line; None where they are more than are kept apart.
-fn split_words(line: &[u8]) -> Option<ArrayVec<&[u8], 24>>
+fn split_words(line: &[u8]) -> Option<ArrayVec<&[u8], MOST_WORDS>>
     ensures { IfSome result (λ w. map (λ word. word.now) w.items ≡ words_of line.now) }
 {
     let mut words = ArrayVec::new();
@@ -186,16 +205,31 @@ fn split_words(line: &[u8]) -> Option<ArrayVec<&[u8], 24>>
     Some(words)
 }
 
-// The first form that a line has. A line is cut into words once, unless it has too many.
-fn first_form<'t, V: Copy>(
+// Reads a line that is cut into these words.
+fn read_words<'t, V: Copy>(
     forms: &'t [(V, &'t [(Slot, &'t str)])],
-    line: &[u8],
-) -> Option<(V, &'t [(Slot, &'t str)])>
-    ensures { option_map (λ r. (r.0, map (λ p. (p.0, p.1.now)) r.1.now)) result ≡ row_of (map (λ r. (r.0, map (λ p. (p.0, p.1.now)) r.1.now)) forms.now) (words_of line.now) }
+    line: &'t [u8],
+    words: &[&[u8]],
+) -> Result<FormLine<'t, V>, AtWord<LineCause>>
+    requires { map (λ w. w.now) words.now ≡ words_of line.now }
+    ensures { said result ≡ line_of (map (λ r. (r.0, map (λ p. (p.0, p.1.now)) r.1.now)) forms.now) (words_of line.now) }
 {
-    match split_words(line) {
-        Some(words) => form_of_words(forms, words.as_slice()),
-        None => form_of(forms, line),
+    match form_of_words(forms, words) {
+        Some(form) => read_by(form.0, form.1, line, lack_value(form.1, words)),
+        None => Err(at_word(most_fitting(forms, line), LineCause::Word)),
+    }
+}
+
+// Reads a line that has more words than are kept apart.
+fn read_long<'t, V: Copy>(
+    forms: &'t [(V, &'t [(Slot, &'t str)])],
+    line: &'t [u8],
+) -> Result<FormLine<'t, V>, AtWord<LineCause>>
+    ensures { said result ≡ line_of (map (λ r. (r.0, map (λ p. (p.0, p.1.now)) r.1.now)) forms.now) (words_of line.now) }
+{
+    match form_of(forms, line) {
+        Some(form) => read_by(form.0, form.1, line, lacks_value(form.1, Some(line))),
+        None => Err(at_word(most_fitting(forms, line), LineCause::Word)),
     }
 }
 
@@ -211,9 +245,9 @@ pub fn read_line<'t, V: Copy>(
 ) -> Result<FormLine<'t, V>, AtWord<LineCause>>
     ensures { said result ≡ line_of (map (λ r. (r.0, map (λ p. (p.0, p.1.now)) r.1.now)) forms.now) (words_of line.now) }
 {
-    match first_form(forms, line) {
-        Some(form) => read_by(form.0, form.1, line),
-        None => Err(at_word(most_fitting(forms, line), LineCause::Word)),
+    match split_words(line) {
+        Some(words) => read_words(forms, line, words.as_slice()),
+        None => read_long(forms, line),
     }
 }
 
@@ -231,6 +265,16 @@ impl<'t, V> FormLine<'t, V> {
     {
         match value_at(self.form, Some(self.text), place) {
             Value::Number(number) => number,
+            _ => 0,
+        }
+    }
+
+    /// The byte at a place; 0 where none is.
+    pub fn byte(&self, place: usize) -> u8
+        ensures { result ≡ byte_at (values_of self.now) place }
+    {
+        match value_at(self.form, Some(self.text), place) {
+            Value::Number(byte) => byte.min(LAST_BYTE) as u8,
             _ => 0,
         }
     }

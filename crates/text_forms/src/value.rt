@@ -1,13 +1,14 @@
 //! What the words of a line say.
 ghost use Rattle.std.specs.Prelude.{◌≡◌, min};
 ghost use Rattle.std.specs.Option.{option_map};
+ghost use Rattle.text_core.specs.Hex.{hex_byte};
 ghost use Rattle.text_core.specs.Number.{number_of};
 ghost use Rattle.text_forms.specs.Limits.{at_most, last_port, most_ports};
 ghost use Rattle.text_forms.specs.Forms.{KindOf, Level, Number, PortOf, PortsOf, level_of, meaning_of, meant, switch_of};
 
 use crate::form::Slot;
 use crate::limits::{LAST_PORT, LATEST, MOST_PORTS};
-use text_core::{Kind, number_in};
+use text_core::{Kind, hex_byte, number_in};
 
 /// The value of a word.
 #[derive(Clone, Copy, Default)]
@@ -77,6 +78,15 @@ fn ports_in(word: &[u8]) -> Option<u8>
     }
 }
 
+fn byte_in(word: &[u8]) -> Option<u64>
+    ensures { result ≡ hex_byte word.now }
+{
+    match hex_byte(word) {
+        Some(byte) => Some(u64::from(byte)),
+        None => None,
+    }
+}
+
 fn of_ports<'t>(ports: Option<u8>) -> Option<Value<'t>>
     ensures { option_map meant result ≡ option_map PortsOf ports }
 {
@@ -130,6 +140,7 @@ pub(crate) fn value_in(slot: Slot, word: &[u8]) -> Option<Value<'_>>
         Slot::Word | Slot::Key => Some(Value::Itself),
         Slot::Time | Slot::LateTime => of_number(at_most(LATEST, number_in(word))),
         Slot::Number => of_number(number_in(word)),
+        Slot::Opcode => of_number(byte_in(word)),
         Slot::Port | Slot::KeyPort => of_port(port_in(word)),
         Slot::Ports => of_ports(ports_in(word)),
         Slot::Level => of_level(level_in(word)),

@@ -2,7 +2,9 @@
 //! which fault comes first.
 use crate::cases::case_holds;
 use device_features::KeyWord;
-use room_lines::{SCRIPT, SESSION, ScriptVerb, SessionVerb, TOPOLOGY, TopologyVerb};
+use room_lines::{
+    SCRIPT, SESSION, STEPS, ScriptVerb, SessionVerb, StepVerb, TOPOLOGY, TopologyVerb,
+};
 use std::process::Abort;
 use text_core::{AtWord, Kind};
 use text_forms::{FormLine, LineCause, Slot, Value, fitting, read_line};
@@ -328,4 +330,58 @@ fn sessions_have_their_forms(rt: HostRuntime) {
     for line in UNASKED {
         case_holds(&rt, read_line(SESSION, line.as_bytes()).is_err(), line);
     }
+}
+
+/// Lines of steps, and what each stands for.
+const STEPPED: &[(&str, StepVerb)] = &[
+    ("edge", StepVerb::Edge),
+    ("round", StepVerb::Round),
+    ("until opcode 82", StepVerb::UntilOpcode),
+    ("until opcode ff", StepVerb::UntilOpcode),
+    ("until device p1", StepVerb::UntilDevice),
+    ("until device ", StepVerb::UntilDevice),
+    ("until break", StepVerb::UntilBreak),
+    ("show p1", StepVerb::Show),
+];
+
+/// Lines that are no step, and the word at fault.
+const UNSTEPPED: &[(&str, usize)] = &[
+    ("", 0),
+    ("edges", 0),
+    ("edge 5", 1),
+    ("until", 1),
+    ("until round", 1),
+    ("until opcode", 2),
+    // An opcode is at fault before what stands after it.
+    ("until opcode 8 now", 2),
+    ("until opcode 8A", 2),
+    ("until opcode 82 now", 3),
+    // How many words stand after it is at fault before a name.
+    ("until device p1 now", 3),
+    ("until break now", 2),
+    ("show", 1),
+    ("show p1 now", 2),
+];
+
+#[test]
+fn steps_have_their_forms(rt: HostRuntime) {
+    for (line, verb) in STEPPED {
+        let is_so = match read_line(STEPS, line.as_bytes()) {
+            Ok(found) => found.verb == *verb,
+            Err(_) => false,
+        };
+        case_holds(&rt, is_so, line);
+    }
+    for (line, word) in UNSTEPPED {
+        let is_so = match read_line(STEPS, line.as_bytes()) {
+            Ok(_) => false,
+            Err(fault) => fault.cause == LineCause::Word && fault.word == *word,
+        };
+        case_holds(&rt, is_so, line);
+    }
+    let Ok(opcode) = read_line(STEPS, b"until opcode 8a") else {
+        panic!(rt; "an opcode");
+    };
+    assert!(rt; opcode.byte(2) == 0x8a);
+    assert!(rt; opcode.byte(1) == 0);
 }

@@ -6,3 +6,5 @@ pub mod Runs
 pub mod Waits
 pub mod Tries
 pub mod Told
+pub mod Blocks
+pub mod Fine

@@ -132,7 +132,7 @@ last_at true n e h = let f : Some Complete ≡ None = ap (λ (m : ℕ). let o : 
 last_at false n e h = let f : Some Long ≡ None = ap (λ (m : ℕ). let o : Option Ending = if m % 10 == 9 then (if m == 159 then Some Long else None) else None in o) (sym e) ∙ h in cc
 
 -- the next slot
-on_next : (seats : List Seat) (begin : ℕ) (low : Line) → Calm seats begin low → (left : ℕ) (xs : List Slot) (bits : List Bool) (e : ℕ) → OnSlot low begin (suc left) xs bits e → length bits + suc left ≡ 160 → (bit : Bool) → SlotLow low e bit → (f : ℕ) → after_slot low e (last_ending bits) ≡ Next f
+pub on_next : (seats : List Seat) (begin : ℕ) (low : Line) → Calm seats begin low → (left : ℕ) (xs : List Slot) (bits : List Bool) (e : ℕ) → OnSlot low begin (suc left) xs bits e → length bits + suc left ≡ 160 → (bit : Bool) → SlotLow low e bit → (f : ℕ) → after_slot low e (last_ending bits) ≡ Next f
     → (f ≡ e + 2400) × OnSlot low begin left (xs ++ record { fall = e; bit = bit_sampled_at low e } ∷ []) (bits ++ option_to_list (bit_sampled_at low e)) f × (length (bits ++ option_to_list (bit_sampled_at low e)) + left ≡ 160) × (0 < left)
 on_next seats begin low c left xs bits e s all bit d f h =
     let n = next_falls low e bits f h in
@@ -288,7 +288,7 @@ pub record IsOwnEnding (ending : Ending) : Type 0 where
 abbrev IsEndOf : ℕ → List Bool → Read → Type 0
 IsEndOf e bits r = (e + 2400 * length bits < r.at + 2400) × (0 < length bits) × IsOwnEnding r.ending
 
-abbrev reported_slots : Read → List Bool
+abbrev pub reported_slots : Read → List Bool
 reported_slots r = filter_map (λ (s : Slot). s.bit) r.slots
 
 abbrev EndsLater : Line → ℕ → List Bool → ℕ → Option Bool → After → Type 0
@@ -416,8 +416,8 @@ least_sender (s ∷ seats) h = by s.sends (λ k. least_sender seats k) h
     by (Some f) more g = (f, inl refl)
 
 -- a round in which somebody sends
-record Sent (seats : List Seat) (begin : ℕ) (low : Line) : Type 0 where
-  calm : Calm seats begin low
+pub record Sent (seats : List Seat) (begin : ℕ) (low : Line) : Type 0 where
+  pub calm : Calm seats begin low
   frame : List ℕ
   among : In frame (frames_of seats)
   least : least_among (frames_of seats) frame ≡ true
@@ -482,7 +482,7 @@ rises seats begin low s =
         rw (e, f, g) refl
 
 -- and slot 1 falls after 4,500
-slot_falls : (seats : List Seat) (begin : ℕ) (low : Line) → Sent seats begin low → is_fall low (begin + 4500) ≡ true
+pub slot_falls : (seats : List Seat) (begin : ℕ) (low : Line) → Sent seats begin low → is_fall low (begin + 4500) ≡ true
 slot_falls seats begin low s =
     let e : low (begin + 4500) ≡ true = pulls_early seats begin low s (begin + 4500) k pulls in
     let f : low (begin + 4500 - 1) ≡ false = high_till seats begin low s (begin + 4500 - 1) (omega arith) (omega arith) in
@@ -503,7 +503,7 @@ slot_falls seats begin low s =
         sym (in_slot begin (begin + 4500) 0 (begin + 4500) [] (frame_bits s.frame) (omega arith) (omega arith) (omega arith))
         ∙ soon_low (nat_lt 0 (length (frame_bits s.frame))) (slice_index_or (frame_bits s.frame) 0 false) 0 there (omega arith)
 
-starts : (seats : List Seat) (begin : ℕ) (low : Line) → Sent seats begin low → start_of low begin ≡ Ok (begin + 4500)
+pub starts : (seats : List Seat) (begin : ℕ) (low : Line) → Sent seats begin low → start_of low begin ≡ Ok (begin + 4500)
 starts seats begin low s =
     start_risen low begin (begin + 3700) (rises seats begin low s) (omega arith)
     ∙ ap (start_fall begin) (first_in_some (is_fall low) (begin + 3700 + 1) (begin + standard.start_total.most - (begin + 3700)) (begin + 4500) (omega arith) (omega arith) (slot_falls seats begin low s) (λ u a b. quiet_start seats begin low s.calm u (omega arith) b))
@@ -558,7 +558,7 @@ same_wave seats begin o ss wave other r same =
     }
 
 -- somebody pulls at once
-sent_first : (seats : List Seat) (begin : ℕ) (low : Line) → Calm seats begin low → list_any (λ s. is_some s.sends) seats ≡ true → Sent seats begin low
+pub sent_first : (seats : List Seat) (begin : ℕ) (low : Line) → Calm seats begin low → list_any (λ s. is_some s.sends) seats ≡ true → Sent seats begin low
 sent_first seats begin low c h =
     let f = least_sender seats h in
     let l : Least (frames_of seats) = least_of (frames_of seats) f.0 f.1 in

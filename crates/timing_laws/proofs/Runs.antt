@@ -9,7 +9,6 @@ use Rattle.line_wave.specs.Line.{line_of}
 use Rattle.line_wave.specs.Sender.{slot_stretches, sender_stretches}
 use Rattle.line_frames.specs.declared.Ending.{Ending}
 use Rattle.line_frames.specs.declared.Ending.TheVariants.{Complete, Short, Silent, BadStart, Long, Open}
-use Rattle.message_text.specs.ReadingText.{is_complete}
 use Rattle.line_reading.specs.Windows.{standard}
 use Rattle.line_reading.specs.Reading.{reading_of}
 use Rattle.line_reading.specs.Readings.{IsLone, Listed}
@@ -22,7 +21,7 @@ use Rattle.audit_remarks.specs.declared.free.EarlierSender.TheVariants.{Nothing}
 use Rattle.audit_remarks.specs.declared.free.Previous.{Previous}
 use Rattle.audit_remarks.specs.Attempts.{tries_again}
 use Rattle.audit_remarks.specs.Endings.{is_measured}
-use Rattle.audit_remarks.specs.Free.{before_of, final_bit, final_by, free_before, free_due, is_bad_start, last_fall, previous_with, too_soon}
+use Rattle.audit_remarks.specs.Free.{before_of, final_bit, final_by, free_before, free_due, is_bad_start, is_over, last_fall, previous_with, too_soon}
 use Rattle.audit_core.specs.Audit.{Tape, after, come_to, drive_by, drive_of, falls_until, first_tape, lows_of}
 use Rattle.audit_core.specs.Lines.{last_of as last_slot, misfit_lines}
 use Rattle.line_rounds.specs.declared.Seat.{Seat}
@@ -350,7 +349,7 @@ past_next o (next ∷ os) h p edges e past = by (is_bad_start o.reading.ending)
     ]
 
     by : (bad : Bool)
-        → IsPast (if bad then p else record { frame = before_of o.reading.ending o.reading.bits.items; final_bit = final_bit (outcome_listed o) (lows_of (outcome_listed o) edges); whole = is_complete o.reading.ending }) next.reading.begin
+        → IsPast (if bad then p else record { frame = before_of o.reading.ending o.reading.bits.items; final_bit = final_bit (outcome_listed o) (lows_of (outcome_listed o) edges); whole = is_over o.reading.ending o.reading.bits.items }) next.reading.begin
     by true = later
     by false = inr (omega (arith, final, apart))
 

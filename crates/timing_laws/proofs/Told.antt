@@ -44,10 +44,10 @@ use Rattle.timing_laws.proofs.Tries.{first_of_six}
 use Rattle.timing_laws.proofs.Waits.{kept-started}
 
 -- the moves of a run, with these rounds
-record IsMoved (s t : NetState) (os : List Outcome) : Type 0 where
-  moves : List Move
-  goes : Moves s moves t
-  rounds : rounds_of moves ≡ os
+pub record IsMoved (s t : NetState) (os : List Outcome) : Type 0 where
+  pub moves : List Move
+  pub goes : Moves s moves t
+  pub rounds : rounds_of moves ≡ os
 
 by_event : (reporting : Reporting) (at : ℕ) (events : List TimedEvent) (c d last : Config) (text : List ℕ) (os : List Outcome) → IsEventTurn reporting at events c text d → c.events ≡ events
     → AreFramedEvents events → (AreFramedEvents d.events → IsMoved d.net last.net os) → IsMoved c.net last.net os
@@ -72,7 +72,7 @@ by_turn reporting end (Round begin) c d last text os same t f k =
       rounds = ap (λ xs. t.0.outcome ∷ xs) n.rounds;
     }
 
-moved : (reporting : Reporting) (end turns : ℕ) (c d : Config) (text : List ℕ) (l : Leads reporting end turns c text d) → AreFramedEvents c.events
+pub moved : (reporting : Reporting) (end turns : ℕ) (c d : Config) (text : List ℕ) (l : Leads reporting end turns c text d) → AreFramedEvents c.events
     → IsMoved c.net d.net (rounds_in reporting end turns c text d l)
 moved reporting end zero c d text l f = record { moves = []; goes = ap (λ (x : Config). x.net) l.1; rounds = refl }
 moved reporting end (suc turns) c d text l f =
@@ -84,7 +84,7 @@ waves_flat [] = refl
 waves_flat (o ∷ os) = ap (λ l. o.wave ++ l) (waves_flat os)
 
 -- its rounds are of nominal times
-reported_timed : (reporting : Reporting) (tree : List Node) (events : List TimedEvent) (end : ℕ) (text : List ℕ) (totals : Totals) → AreFramedEvents events
+pub reported_timed : (reporting : Reporting) (tree : List Node) (events : List TimedEvent) (end : ℕ) (text : List ℕ) (totals : Totals) → AreFramedEvents events
     → (reported : IsRunText reporting end (start (first_net tree []) events) text totals) → AreTimed (rounds_reported reporting end (start (first_net tree []) events) text totals reported)
 reported_timed reporting tree events end text totals framed reported =
     let m = moved reporting end reported.run.turns (start (first_net tree []) events) reported.run.last reported.run.body reported.run.leads framed in
@@ -100,7 +100,7 @@ reported_six reporting tree events end text totals framed reported =
     (first_of_six (first_net tree []) reported.run.last.net m.moves (framed-started tree []) refl m.goes (kept-started 0 0 tree))
 
 -- what holds of the edges and the readings of its rounds holds of those of the capture that its line is read as
-runs_say : (Says : List Edge → List Listed → Type 0) (format : CaptureForm) (tree : List Node) (events : List TimedEvent) (end : ℕ) (text : List ℕ) (totals : Totals) → AreFramedEvents events
+pub runs_say : (Says : List Edge → List Listed → Type 0) (format : CaptureForm) (tree : List Node) (events : List TimedEvent) (end : ℕ) (text : List ℕ) (totals : Totals) → AreFramedEvents events
     → (reported : IsRunText (Line format) end (start (first_net tree []) events) text totals) → end ≤ latest_event
     → Says (edges_of (run_wave (rounds_reported (Line format) end (start (first_net tree []) events) text totals reported))) (map outcome_listed (rounds_reported (Line format) end (start (first_net tree []) events) text totals reported))
     → (c : Captured) × IsReadText format text c × Says c.edges (readings_of (line_of_edges c.edges) c.end)

@@ -9,7 +9,6 @@ use Rattle.line_wave.specs.declared.Stretch.{Stretch}
 use Rattle.line_frames.specs.declared.Ending.{Ending}
 use Rattle.line_frames.specs.declared.Ending.TheVariants.{Complete, Short, Silent, BadStart, Long, Open}
 use Rattle.line_frames.specs.Bits.{frame_bits}
-use Rattle.message_text.specs.ReadingText.{is_complete}
 use Rattle.line_reading.specs.Reading.{first_in}
 use Rattle.line_reading.specs.Readings.{Listed}
 use Rattle.capture_core.specs.Edges.{edges_of}
@@ -19,7 +18,7 @@ use Rattle.audit_remarks.specs.declared.attempts.Attempts.{Attempts}
 use Rattle.audit_remarks.specs.declared.attempts.LastFrame.{LastFrame}
 use Rattle.audit_remarks.specs.declared.free.Previous.{Previous}
 use Rattle.audit_remarks.specs.Attempts.{after_attempt, attempt_after, attempt_of, earlier_of, failure_at, failure_of, repeats, same_from, since_with}
-use Rattle.audit_remarks.specs.Free.{before_of, final_bit, free_before, is_bad_start}
+use Rattle.audit_remarks.specs.Free.{before_of, final_bit, free_before, is_bad_start, is_over}
 use Rattle.audit_remarks.specs.Header.{failed_block, initiator_of, is_poll, is_taken, seeks_address}
 use Rattle.audit_core.specs.Audit.{Tape, after, come_to, first_tape, lows_of}
 use Rattle.line_rounds.specs.declared.Seat.{Seat}
@@ -421,7 +420,7 @@ runs_of_six s t (Goes begin o ∷ ms) framed none m tape old left past most kept
     past_bit : (bad : Bool) → is_bad_start o.reading.ending ≡ bad → (after x tape).previous.final_bit ≤ o.rest
     past_bit true e = absurd (false≢true (sym (no_bad_start o.reading.ending begun) ∙ e))
     past_bit false e =
-        subst (λ (b : Bool). (let q : Previous = if b then tape.previous else record { frame = before_of o.reading.ending o.reading.bits.items; final_bit = final_bit x lows; whole = is_complete o.reading.ending } in q).final_bit ≤ o.rest) (sym e)
+        subst (λ (b : Bool). (let q : Previous = if b then tape.previous else record { frame = before_of o.reading.ending o.reading.bits.items; final_bit = final_bit x lows; whole = is_over o.reading.ending o.reading.bits.items } in q).final_bit ≤ o.rest) (sym e)
         (let f : final_bit x lows ≤ o.reading.begin + 2100 + 2400 * length o.reading.bits.items = final_by_round o (rounds_of ms) timed (come_to x tape).place here in omega (arith, f, low))
 
 -- nothing is kept when an audit begins

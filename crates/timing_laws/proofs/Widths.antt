@@ -14,7 +14,7 @@ use Rattle.audit_widths.specs.declared.misfit.Misfit.{Misfit}
 use Rattle.audit_widths.specs.Lows.{low_at, lows_before, lows_in}
 use Rattle.audit_widths.specs.Misfits.{drive_within, fits, has_all, is_total, low_misfit, low_window, misfit_of, slot_bit, total_by, total_misfit, total_window, window}
 use Rattle.audit_remarks.specs.Endings.{is_stray}
-use Rattle.audit_core.specs.Lines.{last_by, last_of as last_slot, misfit_lines, slot_by, slot_low, slot_total}
+use Rattle.audit_core.specs.Lines.{is_followed, last_by, last_of as last_slot, misfit_lines, slot_by, slot_low, slot_total}
 
 -- ---- widths in their windows
 
@@ -32,31 +32,31 @@ fit_take (suc n) ending bits slot [] h = tt
 fit_take (suc n) ending bits slot (low ∷ lows) h = (h.0, fit_take n ending bits (slot + 1) lows h.1)
 
 -- of which nothing is remarked, whatever is measured of the last slot
-low_by_last : (d e : Option ℕ) (b c : Bool) (bits : List Bool) (slot : ℕ) (low : LowOf) → low_misfit bits slot low ≡ None
-    → slot_low (if b then (if c then last_by (Some 0) None else last_by d e) else last_by None None) bits slot low ≡ None
+low_by_last : (d : Bool) (e : Option ℕ) (b c : Bool) (bits : List Bool) (slot : ℕ) (low : LowOf) → low_misfit bits slot low ≡ None
+    → slot_low (if b then (if c then last_by true None else last_by d e) else last_by false None) bits slot low ≡ None
 low_by_last d e false c bits slot low h = h
 low_by_last d e true true bits slot low h = h
-low_by_last None None true false bits slot low h = h
-low_by_last (Some w) None true false bits slot low h = h
-low_by_last None (Some w) true false bits slot low h = refl
-low_by_last (Some v) (Some w) true false bits slot low h = refl
+low_by_last false None true false bits slot low h = h
+low_by_last true None true false bits slot low h = h
+low_by_last false (Some w) true false bits slot low h = refl
+low_by_last true (Some w) true false bits slot low h = refl
 
 no_low : (d : Option ℕ) (x : Listed) (all : List LowOf) (n : ℕ) (bits : List Bool) (slot : ℕ) (low : LowOf) → low_misfit bits slot low ≡ None
     → slot_low (slot_by (last_slot d x all) n) bits slot low ≡ None
-no_low d x all n bits slot low h = low_by_last d (drive_within all) (n == 0) (is_stray x all) bits slot low h
+no_low d x all n bits slot low h = low_by_last (is_followed d x) (drive_within all) (n == 0) (is_stray x all) bits slot low h
 
-total_by_last : (d e : Option ℕ) (b c : Bool) (ending : Ending) (bits : List Bool) (slot : ℕ) (low : LowOf) → total_misfit ending bits slot low ≡ None
-    → slot_total (if b then (if c then last_by (Some 0) None else last_by d e) else last_by None None) ending bits slot low ≡ None
+total_by_last : (d : Bool) (e : Option ℕ) (b c : Bool) (ending : Ending) (bits : List Bool) (slot : ℕ) (low : LowOf) → total_misfit ending bits slot low ≡ None
+    → slot_total (if b then (if c then last_by true None else last_by d e) else last_by false None) ending bits slot low ≡ None
 total_by_last d e false c ending bits slot low h = h
 total_by_last d e true true ending bits slot low h = refl
-total_by_last None None true false ending bits slot low h = h
-total_by_last (Some w) None true false ending bits slot low h = refl
-total_by_last None (Some w) true false ending bits slot low h = refl
-total_by_last (Some v) (Some w) true false ending bits slot low h = refl
+total_by_last false None true false ending bits slot low h = h
+total_by_last true None true false ending bits slot low h = refl
+total_by_last false (Some w) true false ending bits slot low h = refl
+total_by_last true (Some w) true false ending bits slot low h = refl
 
 no_total : (d : Option ℕ) (x : Listed) (all : List LowOf) (n : ℕ) (ending : Ending) (bits : List Bool) (slot : ℕ) (low : LowOf) → total_misfit ending bits slot low ≡ None
     → slot_total (slot_by (last_slot d x all) n) ending bits slot low ≡ None
-no_total d x all n ending bits slot low h = total_by_last d (drive_within all) (n == 0) (is_stray x all) ending bits slot low h
+no_total d x all n ending bits slot low h = total_by_last (is_followed d x) (drive_within all) (n == 0) (is_stray x all) ending bits slot low h
 
 no_misfits : (d : Option ℕ) (x : Listed) (all : List LowOf) (ending : Ending) (bits : List Bool) (slot : ℕ) (lows : List LowOf) → AllFit ending bits slot lows
     → misfit_lines (last_slot d x all) ending bits slot lows ≡ []

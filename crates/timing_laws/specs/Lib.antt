@@ -1,3 +1,4 @@
 pub mod Attempts
 pub mod Nominal
 pub mod Times
+pub mod Verdicts

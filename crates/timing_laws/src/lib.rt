@@ -3,4 +3,6 @@
 
 mod laws;
 
-pub use laws::{rounds_are_nominal, runs_give_up, runs_keep_their_times};
+pub use laws::{
+    rounds_are_blocks, rounds_are_nominal, runs_are_fine, runs_give_up, runs_keep_their_times,
+};

@@ -12,6 +12,41 @@ const LAID: &str = "5 last 2 4>4\n20000 drive 1 4>4\n";
 /// A start bit and a bit 1, after which the line stays high.
 const EDGES: &str = "1000 0\n4700 1\n5500 0\n6100 1\n20000 end\n";
 
+/// What is said of them on standard error.
+const SHORT: &str =
+    "hdminet: verdict short: no block of a frame is read, the capture is short, low stretches: 2\n";
+
+/// A poll that nobody answers, of which nothing is to say.
+const POLLS: &str = "\
+12000 0
+15700 1
+16500 0
+18000 1
+18900 0
+20400 1
+21300 0
+22800 1
+23700 0
+25200 1
+26100 0
+27600 1
+28500 0
+30000 1
+30900 0
+32400 1
+33300 0
+34800 1
+35700 0
+36300 1
+38100 0
+38700 1
+60000 end
+";
+
+/// A start bit and a bit 1, twice, for a comparison.
+const TWICE: &str =
+    "1000 0\n4700 1\n5500 0\n6100 1\n20000 end\ncapture\n1000 0\n4700 1\n5500 0\n6100 1\n20000 end\n";
+
 /// The same as rows, of two wires.
 const LEVELS: &str =
     "Time [s],HPD,CEC\n0.0,1,1\n0.001,1,0\n0.0047,1,1\n0.0055,1,0\n0.0061,1,1\n0.02,1,1\n";
@@ -57,7 +92,11 @@ const WRITTEN: &[(&str, &str)] = &[
     ("run --strict", TELEVISION),
     ("run --json", TELEVISION),
     ("run --json --room", TELEVISION),
-    ("mon --json", EDGES),
+    ("mon --json", POLLS),
+    ("mon --report", POLLS),
+    ("mon --verdict", POLLS),
+    ("mon --as-test", POLLS),
+    ("mon --diff", TWICE),
     ("check", TEST),
     ("check --trace", TEST),
     ("check --plain", TEST),
@@ -85,6 +124,20 @@ fn a_writer_that_fails_at_each_byte(rt: HostRuntime) {
     for row in WRITTEN {
         let (line, input) = *row;
         is_cut(&rt, line, input.as_bytes());
+    }
+}
+
+/// What `mon --json` writes of a start bit and a bit 1.
+const READ: &str =
+    "{\"line\":\"1000 8251 silent 1\",\"type\":\"reading\",\"begin\":1000,\"close\":8251,\"ending\":\"silent\",\"bits\":\"1\"}\n";
+
+#[test]
+fn a_verdict_where_a_writer_fails(rt: HostRuntime) {
+    let (line, input, read) = ("mon --json", EDGES.as_bytes(), READ.as_bytes());
+    let reported = reported_of(&rt, line, input, Some(read.len()));
+    ends(&rt, reported, 0, read, SHORT.as_bytes(), line, "a verdict");
+    for room in [0, 1, 60] {
+        writes_front(&rt, line, input, &read[..room]);
     }
 }
 
@@ -127,6 +180,9 @@ fn an_edid_and_its_text_into_a_writer_that_fails(rt: HostRuntime) {
     let digits = written(&rt, "edid --text", TEXT.as_bytes());
     let bytes = hex::decode(rt.alloc(), digits.as_str().trim_ascii()).expect(&rt, "hex digits");
     is_cut(&rt, "edid", &bytes);
+    is_cut(&rt, "edid --as c", &bytes);
+    is_cut(&rt, "edid --as xml", &bytes);
+    is_cut(&rt, "edid --eld --meaning", &bytes);
 }
 
 /// A television polls its address at 12000, and is alone. Its key is refused.
@@ -212,8 +268,9 @@ fn a_report_into_a_writer_that_fails(rt: HostRuntime) {
     is_cut_where_tests_fail(&rt, "check", FAILS, FAILS_REPORT, failed, &[0, 14, 70, 214]);
     let failed = "hdminet: failed tests in the range\n";
     is_cut_where_tests_fail(&rt, "check", POLLED, POLLED_STRETCHES, failed, &[0, 12, 23]);
-    let failed = "hdminet: failed tests 1\n";
+    let failed = format!(in rt.alloc(); "hdminet: failed tests 1\n{SHORT}").expect(&rt, "a fault");
     let line = "check --capture";
+    let failed = failed.as_str();
     is_cut_where_tests_fail(&rt, line, UNREAD, UNREAD_REPORT, failed, &[0, 14, 70]);
 }
 

@@ -1,5 +1,5 @@
 use Rattle.std.proofs.Common.{drop, false}
-use Rattle.audit_core.specs.Joined.{joined_lines}
+use Rattle.capture_join.specs.Joined.{joined_lines}
 use Rattle.audit_core.proofs.Audited.{Told}
 use Rattle.audit_core.proofs.JoinedLines.{after_joined}
 use Rattle.audit_core.proofs.readings.hear_from.Given as goal

@@ -1,31 +1,31 @@
-use Rattle.std.proofs.Common.{false, sym, ap, ◌∙◌}
+use Rattle.std.proofs.Common.{◌+◌, List, drop, false, get_or, sym, subst}
 use Rattle.line_wave.specs.declared.Edge.{Edge}
-use Rattle.audit_core.specs.Joined.{idle_by}
-use Rattle.audit_core.proofs.Idle.{here_idle, joined_here, last_idle, or_else}
+use Rattle.capture_core.specs.Edges.{IsCapture}
+use Rattle.capture_join.specs.Joined.{FindsEnd}
+use Rattle.audit_core.proofs.Audited.{next_edge, no_edge}
+use Rattle.audit_core.proofs.Idle.{Searches, search_end, search_first, search_more}
 use Rattle.audit_core.proofs.readings.joined_at.Goals as goal
 
 abbrev none : Edge
 none = record { at = 0; low = false }
 
-pub returns-in-Some : goal.returns-in-Some
-returns-in-Some c =
-    let edges = c.edges-edges.result.now in
-    joined_here c.args.capture.now edges c.in-Some.instant c.edges-edges.ensures.edges c.edges-edges.ensures.capture
-    (c.loop-edge.invariant
-    ∙ here_idle edges c.loop-edge.edge-index c.args.capture.now.end c.in-Some.instant none c.loop-edge.high_since c.loop-edge-test.true (sym c.in-Some.ensures))
+pub loop-edge-init : goal.loop-edge-init
+loop-edge-init c =
+    let now = c.args.capture.now in
+    subst (λ (es : List Edge). Searches now.edges es now.end c.new-search.result) (sym c.edges-edges.ensures.edges) (search_first now.edges now.end c.new-search.result c.edges-edges.ensures.capture c.new-search.ensures)
 
-pub returns-in-Some-idle_by : goal.returns-in-Some-idle_by
-returns-in-Some-idle_by c =
+pub loop-edge-preserved : goal.loop-edge-preserved
+loop-edge-preserved c =
+    let now = c.args.capture.now in
     let edges = c.edges-edges.result.now in
-    let end = c.args.capture.now.end in
-    joined_here c.args.capture.now edges c.in-Some-idle_by.instant c.edges-edges.ensures.edges c.edges-edges.ensures.capture
-    (c.loop-edge.invariant ∙ last_idle edges c.loop-edge.edge-index end c.loop-edge.high_since c.loop-edge-test.false
-    ∙ ap (λ o. or_else o end) (ap (idle_by c.loop-edge.high_since) (sym c.end.ensures.end) ∙ sym c.in-Some-idle_by.ensures))
+    let k = c.loop-edge.edge-index in
+    search_more now.edges (get_or edges k none) (drop (k + 1) edges) now.end c.loop-edge.search c.edge.new.self
+    (subst (λ (es : List Edge). Searches now.edges es now.end c.loop-edge.search) (next_edge edges k none c.loop-edge-test.true) c.loop-edge.invariant) c.edge.ensures.finds
 
-pub returns-in-None : goal.returns-in-None
-returns-in-None c =
+pub returns : goal.returns
+returns c =
+    let now = c.args.capture.now in
     let edges = c.edges-edges.result.now in
-    let end = c.args.capture.now.end in
-    joined_here c.args.capture.now edges c.end-in-None.result c.edges-edges.ensures.edges c.edges-edges.ensures.capture
-    (c.loop-edge.invariant ∙ last_idle edges c.loop-edge.edge-index end c.loop-edge.high_since c.loop-edge-test.false
-    ∙ ap (λ o. or_else o end) (ap (idle_by c.loop-edge.high_since) (sym c.end.ensures.end) ∙ sym c.in-None.ensures) ∙ sym c.end-in-None.ensures.end)
+    search_end now.edges now.end c.loop-edge.search c.end-2.result
+    (subst (λ (es : List Edge). Searches now.edges es now.end c.loop-edge.search) (no_edge edges c.loop-edge.edge-index c.loop-edge-test.false) c.loop-edge.invariant)
+    (subst (λ n. FindsEnd c.loop-edge.search n c.end-2.result) c.end.ensures.end c.end-2.ensures)

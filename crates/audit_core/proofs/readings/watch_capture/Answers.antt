@@ -6,7 +6,7 @@ use Rattle.capture_monitor.proofs.ReadBy.{standard_readings}
 use Rattle.record_core.specs.declared.cell.Form.TheVariants.{Text}
 use Rattle.audit_notes.specs.Lines.{lines_text}
 use Rattle.audit_core.proofs.AsLines.{readings_lines}
-use Rattle.audit_core.specs.Joined.{joined_lines}
+use Rattle.capture_join.specs.Joined.{joined_lines}
 use Rattle.audit_core.proofs.JoinedLines.{none_joined}
 use Rattle.audit_core.proofs.Writing.{written_as}
 use Rattle.audit_core.proofs.readings.watch_capture.Goals as goal

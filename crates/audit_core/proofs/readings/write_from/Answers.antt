@@ -5,7 +5,7 @@ use Rattle.line_reading.specs.Windows.{standard}
 use Rattle.capture_monitor.specs.Watch.{captured_by}
 use Rattle.record_core.specs.declared.cell.Form.TheVariants.{Text}
 use Rattle.audit_notes.specs.Lines.{lines_text}
-use Rattle.audit_core.specs.Joined.{joined_lines}
+use Rattle.capture_join.specs.Joined.{joined_lines}
 use Rattle.audit_core.proofs.readings.write_from.Goals as goal
 
 pub returns-in-Ok : goal.returns-in-Ok

@@ -1,4 +1,4 @@
-use Rattle.std.proofs.Common.{rules, ◌≡◌, ◌++◌, Option, Some, IsTrue, length, refl, sym, ap, ◌∙◌}
+use Rattle.std.proofs.Common.{rules, ◌≡◌, ◌++◌, Some, IsTrue, length, refl, sym, ap, ◌∙◌}
 use Rattle.text_core.specs.declared.phys.Phys.{Phys}
 use Rattle.edid_base.specs.Base.{base_bytes}
 use Rattle.edid_core.specs.Address.{first_address}

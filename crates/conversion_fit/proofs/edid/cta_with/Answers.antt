@@ -5,7 +5,7 @@ use Rattle.edid_base.specs.Timing.{timing_bytes}
 use Rattle.edid_cta.specs.Block.{block_bytes}
 use Rattle.edid_cta.specs.Cta.{is_tail}
 use Rattle.edid_cta.specs.declared.block.DataBlock.{DataBlock}
-use Rattle.conversion_fit.specs.Whole.{zeros_after}
+use Rattle.conversion_fit.specs.Zeros.{zeros_after}
 use Rattle.conversion_fit.proofs.Sizes.{counted}
 use Rattle.conversion_fit.proofs.Zeros.{zeros_bytes, zeros_end, zeros_whole}
 use Rattle.conversion_fit.proofs.edid.cta_with.Goals as goal

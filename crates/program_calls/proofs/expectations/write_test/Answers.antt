@@ -1,6 +1,6 @@
 use Rattle.std.proofs.Common.{OnOk, subst, sym}
 use Rattle.program_calls.specs.Tests.{WritesTest}
-use Rattle.cli_words.specs.declared.choice.TestView.{TestView}
+use Rattle.cli_choice.specs.declared.choice.TestView.{TestView}
 use Rattle.program_calls.proofs.expectations.write_test.Goals as goal
 
 pub returns-in-Report : goal.returns-in-Report

@@ -3,7 +3,7 @@ use Rattle.expect_sweep.specs.Sweep.{IsSweepCut, IsSweepReported}
 use Rattle.program_calls.specs.Tests.{WritesPassed, WritesTest}
 use Rattle.program_calls.proofs.ShownLemmas.{on_ok}
 use Rattle.program_calls.proofs.TestLemmas.{reported, swept}
-use Rattle.cli_words.specs.declared.choice.TestView.TheVariants.{Report}
+use Rattle.cli_choice.specs.declared.choice.TestView.TheVariants.{Report}
 use Rattle.program_calls.proofs.expectations.write_tests.Goals as goal
 
 pub returns-in-Ok : goal.returns-in-Ok

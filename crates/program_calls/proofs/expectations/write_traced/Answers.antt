@@ -2,7 +2,7 @@ use Rattle.std.proofs.Common.{◌≡◌}
 use Rattle.program_calls.specs.Tests.{WritesTest}
 use Rattle.program_calls.proofs.ShownLemmas.{on_ok}
 use Rattle.program_calls.proofs.TestLemmas.{traced}
-use Rattle.cli_words.specs.declared.choice.TestView.TheVariants.{Traced}
+use Rattle.cli_choice.specs.declared.choice.TestView.TheVariants.{Traced}
 use Rattle.program_calls.proofs.expectations.write_traced.Goals as goal
 
 pub returns : goal.returns

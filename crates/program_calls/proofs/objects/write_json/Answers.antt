@@ -1,7 +1,7 @@
 use Rattle.std.proofs.Common.{OnOk, subst, sym}
 use Rattle.program_calls.specs.Done.{Writes}
-use Rattle.cli_words.specs.declared.choice.CommandChoice.TheVariants.{Json}
-use Rattle.cli_words.specs.declared.choice.Objects.{Objects}
+use Rattle.cli_choice.specs.declared.choice.CommandChoice.TheVariants.{Json}
+use Rattle.cli_choice.specs.declared.choice.Objects.{Objects}
 use Rattle.program_calls.proofs.objects.write_json.Goals as goal
 
 pub returns-in-Trace : goal.returns-in-Trace

@@ -1,10 +1,10 @@
 use Rattle.std.proofs.Common.{◌≡◌, List, false, map, refl, subst, sym}
 use Rattle.capture_monitor.specs.Watch.{captured_by}
-use Rattle.cli_words.specs.declared.choice.CaptureReport.{CaptureReport}
+use Rattle.cli_choice.specs.declared.choice.CaptureReport.{CaptureReport}
 use Rattle.audit_notes.specs.Lines.{AuditLine}
 use Rattle.audit_notes.specs.Lines.AuditLine.{Reading}
 use Rattle.audit_core.specs.Audit.{audit_lines}
-use Rattle.audit_core.specs.Joined.{joined_lines}
+use Rattle.capture_join.specs.Joined.{joined_lines}
 use Rattle.program_captures.specs.Captures.{AreLinesOf}
 use Rattle.program_captures.proofs.capture.hear_report.Goals as goal
 

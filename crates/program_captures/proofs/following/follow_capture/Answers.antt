@@ -1,6 +1,6 @@
 use Rattle.std.proofs.Common.{IfErr, OnOk, subst, sym}
 use Rattle.std.specs.Io.KnownBytes.{append_known}
-use Rattle.cli_words.specs.declared.choice.FollowReport.{FollowReport}
+use Rattle.cli_choice.specs.declared.choice.FollowReport.{FollowReport}
 use Rattle.program_captures.specs.Following.{FollowsTo, StopsAs}
 use Rattle.program_captures.proofs.following.follow_capture.Goals as goal
 

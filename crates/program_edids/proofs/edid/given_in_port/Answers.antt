@@ -4,9 +4,9 @@ use Rattle.edid_core.specs.declared.edid.Edid.{Edid}
 use Rattle.conversion_calls.specs.Passing.{IsPassedOn}
 use Rattle.conversion_calls.specs.declared.passing.Passing.{Passing}
 use Rattle.program_edids.specs.Edids.{IsGiven, IsSpokenIn}
-use Rattle.cli_words.specs.declared.choice.Recipient.TheVariants.{Port}
-use Rattle.cli_words.specs.declared.choice.Sound.{Sound}
-use Rattle.cli_words.specs.declared.choice.Sound.TheVariants.{Spoken}
+use Rattle.cli_choice.specs.declared.choice.Recipient.TheVariants.{Port}
+use Rattle.cli_choice.specs.declared.choice.Sound.{Sound}
+use Rattle.cli_choice.specs.declared.choice.Sound.TheVariants.{Spoken}
 use Rattle.program_edids.proofs.SoundLemmas.{if_ok, spoken_given}
 use Rattle.program_edids.proofs.edid.given_in_port.Goals as goal
 

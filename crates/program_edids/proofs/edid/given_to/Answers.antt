@@ -4,7 +4,7 @@ use Rattle.edid_core.specs.declared.edid.Edid.{Edid}
 use Rattle.conversion_calls.specs.Passing.{IsPassedOn}
 use Rattle.conversion_calls.specs.declared.passing.Passing.{Passing}
 use Rattle.program_edids.specs.Edids.{IsGiven}
-use Rattle.cli_words.specs.declared.choice.Recipient.{Recipient}
+use Rattle.cli_choice.specs.declared.choice.Recipient.{Recipient}
 use Rattle.program_edids.proofs.edid.given_to.Goals as goal
 
 pub returns-in-At : goal.returns-in-At

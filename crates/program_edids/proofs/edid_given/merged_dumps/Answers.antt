@@ -1,6 +1,6 @@
 use Rattle.std.proofs.Common.{ℕ, List, IfOk, subst, true}
 use Rattle.conversion_fit.specs.Answers.{IsAnswer}
-use Rattle.cli_words.specs.declared.choice.Source.TheVariants.{Pair}
+use Rattle.cli_choice.specs.declared.choice.Source.TheVariants.{Pair}
 use Rattle.program_edids.specs.Edids.{IsRead}
 use Rattle.program_edids.proofs.SoundLemmas.{dumps_read, if_ok}
 use Rattle.program_edids.proofs.edid_given.merged_dumps.Goals as goal

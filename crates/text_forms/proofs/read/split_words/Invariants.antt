@@ -7,4 +7,4 @@ abbrev pub invariant-words : goal.invariant-words
 invariant-words l = words_of l.line ≡ map (λ w. w.now) l.words.items ++ words_after (option_copied l.rest)
 
 abbrev pub decreases-words : goal.decreases-words
-decreases-words l = 24 - length l.words.items
+decreases-words l = 16 - length l.words.items

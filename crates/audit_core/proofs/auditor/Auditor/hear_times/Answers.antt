@@ -17,20 +17,21 @@ returns g c =
     let heard = c.args.heard.now in
     let x = listed_as heard.reading.now in
     let t = tape_at heard.edges.now c.args.self.now in
-    let frame = c.deref-3.ensures.0 in
-    let waiting = c.deref-4.ensures.0 in
+    let sent = c.deref-3.ensures.0 in
+    let frame = c.deref-4.ensures.0 in
+    let waiting = c.deref-5.ensures.0 in
     let lows = c.as_slice.ensures.value in
     let bits = c.deref.ensures.0 in
     let same_bits = c.deref-2.ensures.0 in
     heard_as g.H.LineHearer.hears c.args.out.now c.hear_noted-8.new.out _ _
-    (times_are t x heard.lows.now.items (drive_of x heard.edges.now) c.deref-3.result.now c.deref-4.result.now
+    (times_are t x heard.lows.now.items (drive_of x heard.edges.now) c.first_begin-first.result c.deref-3.result.now c.deref-4.result.now c.deref-5.result.now
     c.series_note.result c.soon_note.result c.drive_note.result c.within_note.result c.block_note.result c.attempt_note.result c.goes_on_note.result c.ending_note.result
-    (frame ∙ c.requires.frame) waiting (c.series_note.ensures ∙ ap (option_map notes.BadStarts) c.over-series.ensures)
+    c.first_begin-first.ensures (sent ∙ c.requires.sent) (frame ∙ c.requires.frame) waiting (c.series_note.ensures ∙ ap (option_map notes.BadStarts) c.over-series.ensures)
     (c.soon_note.ensures ∙ ap (option_map notes.Free) (c.too_soon-soon.ensures ∙ rw (c.tries_again-again.ensures, bits) refl))
     (c.drive_note.ensures ∙ ap (option_map notes.LowDrive) c.drive-drive.ensures) (c.within_note.ensures ∙ ap (option_map notes.DriveWithin) (c.drive_within-within.ensures ∙ ap drive_within lows))
     (c.block_note.ensures ∙ ap (option_map notes.Unfinished) c.unfinished.ensures) (c.attempt_note.ensures ∙ ap (option_map notes.Attempt) (c.failure_of-failure.ensures ∙ rw (c.free_before-free.ensures, same_bits) refl))
-    (c.goes_on_note.ensures ∙ rw (c.goes_on_after.ensures, c.deref-5.ensures.0, c.deref-6.ensures.0) refl)
-    (c.ending_note.ensures ∙ rw (c.deref-7.ensures.0, c.ending-said.ensures, c.drive-drive.ensures) refl))
+    (c.goes_on_note.ensures ∙ rw (c.goes_on_after.ensures, c.deref-6.ensures.0, c.deref-7.ensures.0) refl)
+    (c.ending_note.ensures ∙ rw (c.deref-8.ensures.0, c.ending-said.ensures, c.drive-drive.ensures) refl))
     (both c.args.out.now c.hear_noted-7.new.out c.hear_noted-8.new.out _ _
     (both c.args.out.now c.hear_noted-6.new.out c.hear_noted-7.new.out _ _
     (both c.args.out.now c.hear_noted-5.new.out c.hear_noted-6.new.out _ _

@@ -1,6 +1,6 @@
 use Rattle.std.proofs.Common.{ℕ, List, OnOk, subst}
 use Rattle.program_edids.specs.Edids.{Shows, ShowsAs}
-use Rattle.cli_words.specs.declared.choice.EdidReading.TheVariants.{AsSource}
+use Rattle.cli_choice.specs.declared.choice.EdidReading.TheVariants.{AsSource}
 use Rattle.program_edids.proofs.ShownLemmas.{on_ok}
 use Rattle.program_edids.proofs.edid.Blocks.show_as_source.Goals as goal
 

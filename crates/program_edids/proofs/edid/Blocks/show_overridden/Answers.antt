@@ -1,6 +1,6 @@
 use Rattle.std.proofs.Common.{ℕ, List, OnOk, subst}
 use Rattle.program_edids.specs.Edids.{ShowsCounted, ShowsAs}
-use Rattle.cli_words.specs.declared.choice.EdidReading.TheVariants.{Overridden}
+use Rattle.cli_choice.specs.declared.choice.EdidReading.TheVariants.{Overridden}
 use Rattle.program_edids.proofs.ShownLemmas.{on_ok}
 use Rattle.program_edids.proofs.edid.Blocks.show_overridden.Goals as goal
 

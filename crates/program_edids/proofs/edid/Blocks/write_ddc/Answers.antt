@@ -1,7 +1,7 @@
 use Rattle.std.proofs.Common.{◌∙◌, ap}
 use Rattle.edid_ddc.specs.Readout.{readout_text}
 use Rattle.program_edids.specs.Edids.{Shows}
-use Rattle.cli_words.specs.declared.choice.View.TheVariants.{Readout}
+use Rattle.cli_choice.specs.declared.choice.View.TheVariants.{Readout}
 use Rattle.program_edids.proofs.ShownLemmas.{on_ok}
 use Rattle.program_edids.proofs.edid.Blocks.write_ddc.Goals as goal
 

@@ -1,6 +1,6 @@
 use Rattle.std.proofs.Common.{◌∙◌}
 use Rattle.program_edids.specs.Edids.{Shows}
-use Rattle.cli_words.specs.declared.choice.View.TheVariants.{Fields}
+use Rattle.cli_choice.specs.declared.choice.View.TheVariants.{Fields}
 use Rattle.program_edids.proofs.ShownLemmas.{on_ok}
 use Rattle.program_edids.proofs.edid.Blocks.write_fields.Goals as goal
 

@@ -1,9 +1,9 @@
 use Rattle.std.proofs.Common.{OnOk, subst, sym}
 use Rattle.conversion_calls.specs.declared.passing.Passing.{Passing}
 use Rattle.program_edids.specs.Edids.{Shows, ShowsPassed}
-use Rattle.cli_words.specs.declared.choice.Recipient.TheVariants.{Port}
-use Rattle.cli_words.specs.declared.choice.Sound.{Sound}
-use Rattle.cli_words.specs.declared.choice.View.TheVariants.{Whole}
+use Rattle.cli_choice.specs.declared.choice.Recipient.TheVariants.{Port}
+use Rattle.cli_choice.specs.declared.choice.Sound.{Sound}
+use Rattle.cli_choice.specs.declared.choice.View.TheVariants.{Whole}
 use Rattle.program_edids.proofs.edid.Blocks.write_in_port.Goals as goal
 
 pub returns-in-Kept : goal.returns-in-Kept

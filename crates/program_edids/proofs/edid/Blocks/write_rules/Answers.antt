@@ -1,7 +1,7 @@
 use Rattle.std.proofs.Common.{ℕ, List, OnOk, subst}
 use Rattle.rules_check.specs.declared.rule.Origin.{Origin}
 use Rattle.program_edids.specs.Edids.{Shows, ShowsOwn, origin_of}
-use Rattle.cli_words.specs.declared.choice.View.TheVariants.{Findings}
+use Rattle.cli_choice.specs.declared.choice.View.TheVariants.{Findings}
 use Rattle.program_edids.proofs.ShownLemmas.{on_ok}
 use Rattle.program_edids.proofs.SoundLemmas.{own_rules}
 use Rattle.program_edids.proofs.edid.Blocks.write_rules.Goals as goal

@@ -1,8 +1,8 @@
 use Rattle.std.proofs.Common.{ℕ, List, OnOk, subst}
 use Rattle.program_edids.specs.Edids.{Shows}
-use Rattle.cli_words.specs.declared.choice.Recipient.TheVariants.{Own, Port}
-use Rattle.cli_words.specs.declared.choice.Sound.TheVariants.{Spoken}
-use Rattle.cli_words.specs.declared.choice.View.TheVariants.{Whole}
+use Rattle.cli_choice.specs.declared.choice.Recipient.TheVariants.{Own, Port}
+use Rattle.cli_choice.specs.declared.choice.Sound.TheVariants.{Spoken}
+use Rattle.cli_choice.specs.declared.choice.View.TheVariants.{Whole}
 use Rattle.program_edids.proofs.ShownLemmas.{on_ok}
 use Rattle.program_edids.proofs.SoundLemmas.{spoken_whole}
 use Rattle.program_edids.proofs.edid.Blocks.write_spoken.Goals as goal

@@ -1,8 +1,8 @@
 use Rattle.std.proofs.Common.{OnOk, subst, sym}
 use Rattle.conversion_calls.specs.declared.passing.Passing.{Passing}
 use Rattle.program_edids.specs.Edids.{Shows, ShowsPassed}
-use Rattle.cli_words.specs.declared.choice.Recipient.{Recipient}
-use Rattle.cli_words.specs.declared.choice.View.TheVariants.{Whole}
+use Rattle.cli_choice.specs.declared.choice.Recipient.{Recipient}
+use Rattle.cli_choice.specs.declared.choice.View.TheVariants.{Whole}
 use Rattle.program_edids.proofs.edid.Blocks.write_whole.Goals as goal
 
 pub returns-in-Own : goal.returns-in-Own

@@ -1,0 +1,5 @@
+pub mod Said
+pub mod Rules
+pub mod Names
+pub mod Contents
+pub mod Texts

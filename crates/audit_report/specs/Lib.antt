@@ -1,0 +1,9 @@
+pub mod Kinds
+pub mod Widths
+pub mod Rows
+pub mod Parties
+pub mod Charges
+pub mod Hearing
+pub mod Texts
+pub mod Report
+pub mod Laws

@@ -1,0 +1,4 @@
+pub mod Lines
+pub mod Pattern
+pub mod Timing
+pub mod Written

@@ -1,0 +1,5 @@
+pub mod Adding
+pub mod Differing
+pub mod Laying
+pub mod Meeting
+pub mod Writing

@@ -1,0 +1,5 @@
+pub mod Aligned
+pub mod Laws
+pub mod Lines
+pub mod Rows
+pub mod Written

@@ -1,0 +1,3 @@
+pub mod WhenIdle
+pub mod JoinedLines
+pub mod Search

@@ -1,0 +1,2 @@
+pub mod Scaled
+pub mod Factor

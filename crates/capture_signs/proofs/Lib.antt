@@ -1,0 +1,5 @@
+mod Summing
+mod Bounding
+mod Running
+mod Piecing
+pub mod Lawful

@@ -1,0 +1,4 @@
+mod Choosing
+mod Hinting
+mod Lawful
+mod Reading

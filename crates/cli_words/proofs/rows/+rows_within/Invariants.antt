@@ -1,4 +1,0 @@
-use Rattle.cli_words.proofs.rows.+rows_within.Given as goal
-
-abbrev pub decreases-rows_within : goal.decreases-rows_within
-decreases-rows_within l = l.most

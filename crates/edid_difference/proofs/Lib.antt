@@ -1,0 +1,4 @@
+mod Parting
+mod Adding
+mod Alike
+mod Beside

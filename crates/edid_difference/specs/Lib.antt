@@ -1,0 +1,5 @@
+pub mod Parts
+pub mod Alignment
+pub mod Values
+pub mod Records
+pub mod Laws

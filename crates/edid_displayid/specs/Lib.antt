@@ -1,0 +1,4 @@
+pub mod Formats
+pub mod Formulas
+pub mod Layouts
+pub mod Listings

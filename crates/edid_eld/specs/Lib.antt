@@ -1,0 +1,4 @@
+pub mod Codes
+pub mod Eld
+pub mod Reading
+pub mod Display

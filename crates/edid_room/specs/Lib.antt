@@ -1,0 +1,3 @@
+pub mod Room
+pub mod Records
+pub mod Laws

@@ -1,0 +1,4 @@
+pub mod Tables
+pub mod Kinds
+pub mod Reading
+pub mod Bytes

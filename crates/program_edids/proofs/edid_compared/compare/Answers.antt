@@ -1,0 +1,19 @@
+use Rattle.std.proofs.Common.{rules, ◌≡◌, List, OnOk, length, subst}
+use Rattle.edid_core.specs.Bytes.{edid_bytes}
+use Rattle.edid_core.specs.declared.edid.Edid.{Edid}
+use Rattle.edid_cta.specs.declared.raw.Ext.{Ext}
+use Rattle.program_edids.specs.Compared.{AreAlike, AreSame}
+use Rattle.program_edids.proofs.ShownLemmas.{on_ok}
+use Rattle.program_edids.proofs.edid_compared.compare.Goals as goal
+
+pub returns-in-Ok : goal.returns-in-Ok
+returns-in-Ok g c =
+    let counted : c.in-Ok.base.extensions ≡ length c.read_parts.new.extensions.items = search rules in
+    let edid : Edid = record { base = c.in-Ok.base; extensions = c.read_parts.new.extensions; counted = counted; few = c.read_parts.ensures.few } in
+    let spelled : edid_bytes edid ≡ c.args.first.now = search rules in
+    let old = g.W.Sink.contents c.args.out.now in
+    let new = g.W.Sink.contents c.compare_second.new.out in
+    let P : List Ext → Type 0 = λ xs. OnOk c.compare_second.result (AreSame c.args.form c.in-Ok.base xs c.args.second.now old new) in
+    on_ok c.compare_second.result (AreSame c.args.form edid.base edid.extensions.items c.args.second.now old new)
+    (AreAlike c.args.form c.args.first.now c.args.second.now old new)
+    (λ s. (edid, spelled, s)) (subst P c.as_slice.ensures.value c.compare_second.ensures)

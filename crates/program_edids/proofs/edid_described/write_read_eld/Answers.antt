@@ -1,0 +1,11 @@
+use Rattle.std.proofs.Common.{refl, subst}
+use Rattle.std.specs.Io.KnownBytes.{Appends}
+use Rattle.edid_eld.specs.Eld.{Parts}
+use Rattle.edid_eld.specs.Reading.{parts_at}
+use Rattle.meaning_eld.specs.Records.{eld_text}
+use Rattle.program_edids.proofs.edid_described.write_read_eld.Goals as goal
+
+pub returns : goal.returns
+returns g c =
+    let P : Parts → Type 0 = λ p. Appends (g.W.Sink.contents c.args.out.now) (g.W.Sink.contents c.write_eld.new.out) (eld_text c.args.form p) in
+    (eld_text c.args.form (parts_at c.args.input.now), (c.in_ok-eld.ensures.accepted, refl), subst P c.in_ok-eld.ensures.read c.in_ok-write_eld.ensures.1)
