@@ -47,6 +47,7 @@ use Rattle.program_calls.specs.Live.{IsLiveDone}
 use Rattle.program_calls.specs.Reports.{WritesReports, report_kind}
 use Rattle.program_input.specs.Parted.{IsCaptureInput, IsRunInput, IsStepsInput}
 use Rattle.program_input.specs.Read.{IsAllOf}
+use Rattle.program_input.specs.Plain.{plain_held, plain_known, takes_plain}
 use Rattle.program_input.specs.Source.{known_bytes, known_joined}
 use Rattle.program_calls.specs.Tests.{IsTestOf}
 
@@ -219,10 +220,11 @@ IsServedOf choice name [] stdin held old new = IsServed (known_bytes None stdin 
 IsServedOf choice name (operand ∷ []) stdin held old new = IsServed (known_bytes (Some operand) stdin held) old new choice name
 IsServedOf choice name (operand ∷ next ∷ operands) stdin held old new = IsServedOfSeveral choice name (operand ∷ next ∷ operands) held old new
 
--- What is asked for is done: the choice, of the operands; of a line that asks for none a help is written.
+-- What is asked for is done: the choice, of the operands; of a line that asks for none a help is written. Texts of captures are read plain
+-- where these are files, or have their form given.
 abbrev pub AreServedAs : Option Asked → List ℕ → List (List ℕ) → Option (List ℕ) → (List ℕ → Option (List ℕ)) → Option (List ℕ) → Option (List ℕ) → Type 0
 AreServedAs asked name operands stdin held old new =
-    MatchOption asked (IsHelp old new) (λ a. IsServedOf a.choice name operands stdin held old new)
+    MatchOption asked (IsHelp old new) (λ a. IsServedOf a.choice name operands (plain_known (takes_plain a.choice false) stdin) (plain_held (takes_plain a.choice true) held) old new)
 
 -- What the words of a command line ask for is done.
 abbrev pub AreServed : List (List ℕ) → Option (List ℕ) → (List ℕ → Option (List ℕ)) → Option (List ℕ) → Option (List ℕ) → Type 0

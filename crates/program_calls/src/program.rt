@@ -10,6 +10,7 @@ ghost use Rattle.program_captures.specs.Compared.{WritesAlike};
 ghost use Rattle.program_calls.specs.Live.{Lives};
 ghost use Rattle.cli_words.specs.Named.{named_in};
 ghost use Rattle.cli_words.specs.Operands.{asked_on, takes};
+ghost use Rattle.program_input.specs.Plain.{plain_held, plain_known, takes_plain};
 ghost use Rattle.program_input.specs.Source.{known_bytes, known_joined};
 
 use crate::fault::ProgramFault;
@@ -25,7 +26,9 @@ use cli_choice::{Asked, CapturePair, CommandChoice, FollowChoice};
 use cli_command::{Refused, choose};
 use cli_words::{CommandLine, is_report, line_of, named_in};
 use program_captures::follow_capture;
-use program_input::{OpenFault, Opens, limit_of, read_input, source_of};
+use program_input::{
+    OpenFault, Opens, PlainFiles, limit_of, plain_reader, read_input, source_of, takes_plain,
+};
 use record_core::Form;
 use std::alloc::{AllocError, Global};
 use std::io::Read;
@@ -509,8 +512,8 @@ impl Call<'_> {
         }
     }
 
-    // Does what is asked for with some operands.
-    fn serve_operands<F: Opens, R: Read, W: Sink, E: Sink>(
+    // Does what is asked for with what some operands stand for.
+    fn serve_sources<F: Opens, R: Read, W: Sink, E: Sink>(
         self,
         files: &F,
         operands: &[String],
@@ -526,6 +529,27 @@ impl Call<'_> {
             [operand] => self.serve_operand(files, Some(operand.as_str()), input, out, err),
             names => self.serve_files(files, names, out, err),
         }
+    }
+
+    // Does what is asked for with some operands. Texts of captures are read plain where these are files, or have their form given.
+    fn serve_operands<F: Opens, R: Read, W: Sink, E: Sink>(
+        self,
+        files: &F,
+        operands: &[String],
+        input: &mut R,
+        out: W,
+        err: &mut E,
+    ) -> ProgramEnd<W>
+        requires { takes self.asked.choice (length (map string_bytes operands.now)) ≡ true }
+        ensures { result.status ≡ 0 → IsServedOf self.entry.asked.choice (name_of (named_in (map string_bytes self.entry.words.now))) (map string_bytes operands.now) (plain_known (takes_plain self.entry.asked.choice false) (R.remaining input.old)) (plain_held (takes_plain self.entry.asked.choice true) (F.held files.now)) (W.contents out) (W.contents result.out) }
+    {
+        let choice = self.asked.choice;
+        let files = PlainFiles {
+            files,
+            is_plain: takes_plain(choice, true),
+        };
+        let mut input = plain_reader(input, takes_plain(choice, false));
+        self.serve_sources(&files, operands, &mut input, out, err)
     }
 }
 

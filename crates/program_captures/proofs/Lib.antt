@@ -1,3 +1,4 @@
 pub mod EdgeLemmas
+pub mod Fronts
 pub mod ShownLemmas
 pub mod CaptureLemmas

@@ -6,6 +6,7 @@ mod compared;
 mod edges;
 mod fault;
 mod following;
+mod front;
 mod signs;
 mod summary;
 

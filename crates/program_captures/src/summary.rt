@@ -9,7 +9,9 @@ ghost use Rattle.program_captures.specs.Summaries.{Summarizes, WritesDevices, Wr
 
 use crate::capture::{as_read, form_of, within_most, without_remark};
 use crate::fault::MonitorFault;
+use crate::front::front_of;
 use crate::signs::{Signs, has_several, signs_of};
+use arrayvec::ArrayString;
 use audit_report::report_capture;
 use capture_as_test::write_as_test;
 use capture_core::Capture;
@@ -21,6 +23,7 @@ use line_frames::Addr;
 use line_reading::Windows;
 use record_core::Form;
 use std::alloc::Global;
+use std::fmt::Write;
 use text_core::{Counted, Sink, WriteFault, put_all};
 
 // Writes the devices on the line of a capture. With a strict one a remark of its audit is a fault, and so is a rule that a device breaks
@@ -158,16 +161,29 @@ pub struct ReadAs {
     pub margin: u64,
 }
 
-// The verdict of the capture of an input, as it is read.
+/// So many edges of a capture are read for the verdict that standard error names, at most.
+const FRONT: usize = 20_000;
+
+/// The verdict of the front of a capture.
+struct FrontVerdict {
+    verdict: Verdict,
+    /// Whether the capture has more edges.
+    is_cut: bool,
+}
+
+// The verdict of the front of the capture of an input, as it is read.
 fn verdict_in(
     alloc: Global,
     read: ReadAs,
     signal: &[u8],
     input: &[u8],
-) -> Result<Verdict, MonitorFault> {
+) -> Result<FrontVerdict, MonitorFault> {
     let whole = read_capture(alloc, form_of(read.form, input), signal, input)?;
     let kept = as_read(alloc, read.inverted, read.scale, read.glitch, whole)?;
-    Ok(verdict_of(alloc, &kept)?)
+    let is_cut = kept.edges().len() > FRONT;
+    let front = front_of(alloc, FRONT, kept)?;
+    let verdict = verdict_of(alloc, &front)?;
+    Ok(FrontVerdict { verdict, is_cut })
 }
 
 // Whether a verdict tells what is not known already: of a line that is fine it tells nothing, nor which margin reads more where one is
@@ -185,8 +201,15 @@ fn is_turned_twice(verdict: Verdict, read: ReadAs) -> bool {
     read.inverted && matches!(verdict, Verdict::Inverted { .. })
 }
 
-/// Says on standard error what the line of a capture looks like: of each line, or of one alone that is not fine. Where memory runs out
-/// nothing is said.
+// The words for the front of a capture.
+fn write_front<E: Sink>(err: &mut E) {
+    let mut text = ArrayString::<40>::new();
+    let _ = write!(text, "of the first {FRONT} edges: ");
+    let _ = put_all(err, text.as_bytes());
+}
+
+/// Says on standard error what the line of a capture looks like: of each line, or of one alone that is not fine. Of a long capture the first
+/// edges are read. Where memory runs out nothing is said.
 pub fn name_verdict<E: Sink>(
     alloc: Global,
     read: ReadAs,
@@ -195,13 +218,16 @@ pub fn name_verdict<E: Sink>(
     input: &[u8],
     err: &mut E,
 ) {
-    let Ok(verdict) = verdict_in(alloc, read, signal, input) else {
+    let Ok(FrontVerdict { verdict, is_cut }) = verdict_in(alloc, read, signal, input) else {
         return;
     };
     if !of_each && !tells(verdict, read) {
         return;
     }
     let _ = put_all(err, b"hdminet: ");
+    if is_cut {
+        write_front(err);
+    }
     if is_turned_twice(verdict, read) {
         let _ = put_all(err, b"with --invert the line is low most of the time\n");
     } else {

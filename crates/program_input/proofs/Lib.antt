@@ -1,1 +1,3 @@
+pub mod Handing
 pub mod LineLemmas
+pub mod Marking

@@ -1,3 +1,5 @@
 pub mod Parted
+pub mod Plain
+pub mod PlainReading
 pub mod Read
 pub mod Source
