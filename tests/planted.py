@@ -196,6 +196,10 @@ PLANTS = [
     ("E-EDID A 3.9: an unused standard timing is 01 01", front(42, 0, 0), ["fail standard-unused-form"]),
     ("E-EDID A 3.10.3.4: a name ends with a line feed and then spaces", descriptor(2, "000000fc004c4f554e474520344b0a54560a"), ["fail text-form"]),
     ("E-EDID A 3.10.3.4: characters of a name are printable", descriptor(2, "000000fc00" + "4c4f4107474520344b2054560a"[:26]), ["fail text-form"]),
+    ("E-EDID A 3.10.3.3: range limits without a formula have a line feed", within(3, 11, 0x0B), ["warn descriptor-reserved"]),
+    ("E-EDID A 3.10.3.3: spaces follow it", within(3, 17, 0x00), ["warn descriptor-reserved"]),
+    ("E-EDID A 3.10.3.3: the high bits of byte 4 are clear", within(3, 4, 0x10), ["warn descriptor-reserved"]),
+    ("E-EDID A 3.10.3: a tag of 11 to F6 is reserved", within(2, 3, 0x11), ["fail no-name", "warn descriptor-reserved"]),
     # Detailed timings.
     ("E-EDID A 3.10.2: a clock below 10 MHz", descriptor(1, "e703" + FHD[4:]), ["fail timing 2 clock", "fail timing 2 out-of-range"]),
     ("E-EDID A 3.10.2: a sync width of 0", within(1, 9, 0x00), ["fail timing 2 timing-zero"]),

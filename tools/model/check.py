@@ -662,6 +662,41 @@ def edid_findings(e, is_port):
         yield 'warn', 'length'
     if any(raw[0] == 0x70 and sum(raw[1:raw[2] + 6]) % 256 for raw in kept):
         yield 'fail', 'displayid-checksum'
+    if any(has_reserved_value(d) for d in shown):
+        yield 'warn', 'descriptor-reserved'
+
+
+def has_reserved_limit(d):
+    """range limits have a value that E-EDID A 3.10.3.3 reserves"""
+    kind = d[10]
+    ill = d[4] & 0xF0 or d[4] >> 2 & 3 == 1 or d[4] & 3 == 1 or 0 in d[5:10] or kind not in (0, 1, 2, 4)
+    if kind in (0, 1):
+        return bool(ill or d[11] != 10 or set(d[12:18]) != {32})
+    if kind == 2:
+        return bool(ill or d[11])
+    return bool(ill or kind == 4 and (d[14] & 7 or d[15] >> 5 > 4 or d[15] & 7 or d[16] & 15 or not d[17]))
+
+
+def has_reserved_value(d):
+    """a display descriptor but that of a text has a value that E-EDID A 3.10.3 reserves"""
+    tag = d[3]
+    if tag in (0xFC, 0xFE, 0xFF):
+        return False
+    if d[2] or 0x11 <= tag <= 0xF6:
+        return True
+    if tag < 0x10:
+        return False
+    if tag == 0xFD:
+        return has_reserved_limit(d)
+    ill = {
+        0x10: any(d[5:]),
+        0xF7: d[5] != 10 or d[11] & 15 or any(d[12:]),
+        0xF8: d[5] != 1 or any(d[i + 1] & 3 or d[i + 2] & 128 for i in range(6, 18, 3)),
+        0xF9: d[5] != 3,
+        0xFA: 0 in d[5:17:2] or d[17] != 10,
+        0xFB: d[6] & 0xF0 or d[11] & 0xF0 or bytes(d[15:]) != b'\n  ',
+    }
+    return bool(d[4] or ill[tag])
 
 
 def blocks_of(e):

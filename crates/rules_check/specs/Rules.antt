@@ -11,7 +11,7 @@ use Rattle.rules_values.specs.ExtParts.{is_cta, begins_with_map, overscans, has_
 use Rattle.rules_values.specs.VideoCodes.{video_codes, repeats, has_lone_code}
 use Rattle.rules_native.specs.Natives.{has_mixed_natives}
 use Rattle.rules_contents.specs.Extensions.{overruns, has_other_revision, has_unknown_tag, has_wrong_section, repeats_block, has_fixed_ycc, is_override, has_misplaced_override, has_low_override}
-use Rattle.rules_contents.specs.Bases.{is_ill_text, is_reserved_week, is_late_year, has_other_gamma, has_reserved_input}
+use Rattle.rules_contents.specs.Bases.{is_ill_text, is_reserved_descriptor, is_reserved_week, is_late_year, has_other_gamma, has_reserved_input}
 use Rattle.rules_contents.specs.Contents.{has_slip}
 use Rattle.rules_contents.specs.declared.contents.Slip.TheVariants as slip
 use Rattle.rules_link.specs.Offers.{has_format_beyond, is_of_hdmi}
@@ -21,7 +21,7 @@ use Rattle.rules_rates.specs.Maps.{has_past, has_slow}
 use Rattle.rules_check.specs.declared.rule.Origin.{Origin}
 use Rattle.rules_check.specs.declared.rule.Origin.TheVariants.{Display, Port}
 use Rattle.rules_check.specs.declared.rule.Rule.{Rule}
-use Rattle.rules_check.specs.declared.rule.Rule.TheVariants.{FirstTimingPreferred, PreferredTiming, ProductName, RangeLimits, LimitsAlone, LimitsOrder, Week, Srgb, NoEmptyDescriptor, UnusedStandard, BlockMap, HdmiRevision, OneSerial, Vga, VideoCodeOnce, NativeCount, NativeSize, Underscan, BasicAudio, Speakers, Padding, VideoCapability, RgbRange, TmdsClock, Address, OneHdmi, HdmiVideoCode, ForumAfterHdmi, CtaForm, CtaRevision, ExtensionTag, Block, BlockOnce, OverrideFirst, OverrideCount, MapWithinCodes, FastYcc420, YccRange, FormatsWithinLimits, FormatsNearLimits, FormatsCarried, TextForm, WeekKnown, YearKnown, SrgbGamma, InputKnown, SectionSum}
+use Rattle.rules_check.specs.declared.rule.Rule.TheVariants.{FirstTimingPreferred, PreferredTiming, ProductName, RangeLimits, LimitsAlone, LimitsOrder, Week, Srgb, NoEmptyDescriptor, UnusedStandard, BlockMap, HdmiRevision, OneSerial, Vga, VideoCodeOnce, NativeCount, NativeSize, Underscan, BasicAudio, Speakers, Padding, VideoCapability, RgbRange, TmdsClock, Address, OneHdmi, HdmiVideoCode, ForumAfterHdmi, CtaForm, CtaRevision, ExtensionTag, Block, BlockOnce, OverrideFirst, OverrideCount, MapWithinCodes, FastYcc420, YccRange, FormatsWithinLimits, FormatsNearLimits, FormatsCarried, TextForm, WeekKnown, YearKnown, SrgbGamma, InputKnown, SectionSum, DescriptorKnown}
 
 -- all rules, in the order in which they are looked at
 abbrev pub rules : List Rule
@@ -31,7 +31,7 @@ rules =
     VideoCapability ∷ RgbRange ∷ TmdsClock ∷ Address ∷ OneHdmi ∷ HdmiVideoCode ∷ ForumAfterHdmi ∷
     CtaForm ∷ CtaRevision ∷ ExtensionTag ∷
     Block slip.Length ∷ BlockOnce ∷ OverrideFirst ∷ OverrideCount ∷ Block slip.Tag ∷ Block slip.AudioFormat ∷ Block slip.HdrBits ∷ Block slip.VideoCode ∷ Block slip.HdmiCode ∷ Block slip.ForumClock ∷ Block slip.ForumScdc ∷ Block slip.ForumRates ∷
-    MapWithinCodes ∷ FastYcc420 ∷ YccRange ∷ Block slip.Latency ∷ FormatsWithinLimits ∷ FormatsNearLimits ∷ FormatsCarried ∷ TextForm ∷ WeekKnown ∷ YearKnown ∷ SrgbGamma ∷ InputKnown ∷ Block slip.Reserved ∷ Block slip.Bytes ∷ SectionSum ∷ []
+    MapWithinCodes ∷ FastYcc420 ∷ YccRange ∷ Block slip.Latency ∷ FormatsWithinLimits ∷ FormatsNearLimits ∷ FormatsCarried ∷ TextForm ∷ WeekKnown ∷ YearKnown ∷ SrgbGamma ∷ InputKnown ∷ Block slip.Reserved ∷ Block slip.Bytes ∷ SectionSum ∷ DescriptorKnown ∷ []
 
 -- an HDMI block has the address of no place in a tree, or in a port's EDID that of the root (HDMI 1.4, section 8.7.3)
 abbrev pub has_ill_address : Origin → List Ext → Bool
@@ -143,3 +143,5 @@ is_broken o SrgbGamma b xs = has_other_gamma b
 is_broken o InputKnown b xs = has_reserved_input b
 -- the sum of the section of a DisplayID extension is 0 modulo 256 (DisplayID 1.3, section 3; DisplayID 2.1, section 3)
 is_broken o SectionSum b xs = list_any has_wrong_section xs
+-- a descriptor has no value that the standard reserves (E-EDID Release A, section 3.10)
+is_broken o DescriptorKnown b xs = list_any is_reserved_descriptor b.descriptors

@@ -12,7 +12,8 @@ use edid_cta::{DataBlock, Ext};
 use rules_contents::{
     Slip, has_low_override, has_misplaced_override, has_other_gamma, has_reserved_input,
     is_late_year, is_override, is_reserved_week, some_fixed_ycc, some_ill_text,
-    some_other_revision, some_overrun, some_repeated, some_slip, some_unknown, some_wrong_section,
+    some_other_revision, some_overrun, some_repeated, some_reserved_descriptor, some_slip,
+    some_unknown, some_wrong_section,
 };
 use rules_link::{has_format_beyond, is_of_hdmi, is_timing_beyond};
 use rules_native::has_mixed_natives;
@@ -27,15 +28,15 @@ use rules_values::{
     timings_of, video_codes,
 };
 
-/// The most findings of an EDID: 58 rules, and nine for each of 22 timings.
-pub const MAX_FINDINGS: usize = 256;
+/// The most findings of an EDID: 59 rules, and nine for each of 22 timings.
+pub const MAX_FINDINGS: usize = 257;
 /// The least pixel clock of a timing: 10 MHz, in units of 10 kHz.
 const MIN_CLOCK: u16 = 1000;
 /// How much larger or smaller than the display an image may be, in millimetres.
 const SIZE_TOLERANCE: u16 = 9;
 
 /// All rules, in the order in which they are looked at.
-const RULES: [Rule; 58] = [
+const RULES: [Rule; 59] = [
     Rule::FirstTimingPreferred,
     Rule::PreferredTiming,
     Rule::ProductName,
@@ -94,6 +95,7 @@ const RULES: [Rule; 58] = [
     Rule::Block(Slip::Reserved),
     Rule::Block(Slip::Bytes),
     Rule::SectionSum,
+    Rule::DescriptorKnown,
 ];
 
 const TIMING_RULES: [TimingRule; 9] = [
@@ -217,6 +219,7 @@ fn is_broken(origin: Origin, rule: Rule, base: &Base, extensions: &[Ext]) -> boo
         Rule::SrgbGamma => has_other_gamma(base),
         Rule::InputKnown => has_reserved_input(base),
         Rule::SectionSum => some_wrong_section(extensions),
+        Rule::DescriptorKnown => some_reserved_descriptor(base),
     }
 }
 
@@ -330,9 +333,9 @@ fn add_edid(
     extensions: &[Ext],
 )
     requires few { length extensions.now ≤ 3 }
-    requires room { array_vec_len found.old + 58 ≤ MAX_FINDINGS }
+    requires room { array_vec_len found.old + 59 ≤ MAX_FINDINGS }
     ensures items { found.new.items ≡ found.old.items ++ edid_findings origin base.now extensions.now }
-    ensures len { array_vec_len found.new ≤ array_vec_len found.old + 58 }
+    ensures len { array_vec_len found.new ≤ array_vec_len found.old + 59 }
 {
     add_rules(found, &RULES, origin, base, extensions);
 }

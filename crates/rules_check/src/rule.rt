@@ -98,6 +98,8 @@ pub enum Rule {
     InputKnown,
     /// The section of a DisplayID extension has a right checksum.
     SectionSum,
+    /// No descriptor has a reserved value.
+    DescriptorKnown,
 }
 
 /// A rule for a detailed timing.

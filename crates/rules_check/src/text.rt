@@ -14,7 +14,7 @@ use text_core::{Sink, WriteFault, put_all};
 /// The bytes that the longest line has room in.
 const LINE: usize = 40;
 /// The bytes that the lines of all findings have room in: a `LINE` for each.
-const TEXT: usize = 10_240;
+const TEXT: usize = 10_280;
 
 fn rule_severity(rule: Rule) -> Severity
     ensures { result ≡ rule_severity rule }
@@ -38,7 +38,8 @@ fn rule_severity(rule: Rule) -> Severity
         | Rule::YearKnown
         | Rule::SrgbGamma
         | Rule::Block(Slip::Reserved)
-        | Rule::Block(Slip::Bytes) => Severity::Warn,
+        | Rule::Block(Slip::Bytes)
+        | Rule::DescriptorKnown => Severity::Warn,
         _ => Severity::Fail,
     }
 }
@@ -138,6 +139,7 @@ pub fn rule_name(rule: Rule) -> &'static str
         Rule::Block(Slip::Reserved) => "reserved",
         Rule::Block(Slip::Bytes) => "length",
         Rule::SectionSum => "displayid-checksum",
+        Rule::DescriptorKnown => "descriptor-reserved",
     }
 }
 

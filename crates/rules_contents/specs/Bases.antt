@@ -6,6 +6,10 @@ use Rattle.edid_base.specs.declared.base.Revision.{Revision}
 use Rattle.edid_base.specs.declared.base.Revision.TheVariants.{Three, Four}
 use Rattle.edid_base.specs.declared.descriptor.Descriptor.{Descriptor}
 use Rattle.edid_base.specs.declared.descriptor.Descriptor.TheVariants.{Raw}
+use Rattle.edid_base.specs.Descriptor.{descriptor_bytes}
+use Rattle.edid_fields.specs.Words.{some_reserved}
+use Rattle.edid_tables.specs.Cuts.{descriptor_section}
+use Rattle.edid_tables.specs.Sections.{section_parts}
 use Rattle.rules_values.specs.BaseParts.{is_tagged, claims_srgb}
 
 -- ---- texts: printable characters, and where they are fewer than 13 a line feed and spaces after them (section 3.10.3)
@@ -36,6 +40,11 @@ has_text_form bytes = has_clear_bytes bytes && is_written (drop 5 bytes)
 abbrev pub is_ill_text : Descriptor → Bool
 is_ill_text (Raw r) = has_text_tag r.bytes && not (has_text_form r.bytes)
 is_ill_text _ = false
+
+-- A field of it has a value that the standard reserves, by its table (section 3.10); what a name, a text and a serial number may have is
+-- above.
+abbrev pub is_reserved_descriptor : Descriptor → Bool
+is_reserved_descriptor d = not (has_text_tag (descriptor_bytes d)) && some_reserved (section_parts (descriptor_section (descriptor_bytes d))) (descriptor_bytes d)
 
 -- ---- numbers
 

@@ -2,9 +2,11 @@
 ghost use Rattle.std.specs.Prelude.{◌≡◌, length, drop};
 ghost use Rattle.std.specs.List.{list_any};
 ghost use Rattle.rules_values.specs.BaseParts.{is_tagged};
-ghost use Rattle.rules_contents.specs.Bases.{are_spaces, is_printable, is_written, has_text_tag, has_clear_bytes, has_text_form, is_ill_text, is_reserved_week, is_late_year, has_other_gamma, is_reserved_input, has_reserved_input};
+ghost use Rattle.rules_contents.specs.Bases.{are_spaces, is_printable, is_written, has_text_tag, has_clear_bytes, has_text_form, is_ill_text, is_reserved_descriptor, is_reserved_week, is_late_year, has_other_gamma, is_reserved_input, has_reserved_input};
 
 use edid_base::{Base, Descriptor, Revision};
+use edid_fields::some_reserved;
+use edid_tables::{descriptor_section, section_parts};
 use rules_values::{NAME_TAG, SERIAL_TAG, claims_srgb};
 
 /// The tag of a descriptor with a text.
@@ -94,6 +96,23 @@ pub fn some_ill_text(base: &Base) -> bool
     base.descriptors
         .iter()
         .any(|descriptor| is_ill_text(descriptor))
+}
+
+/// Whether a descriptor has a value that the standard reserves, but for a name, a text and a serial number.
+pub fn is_reserved_descriptor(descriptor: &Descriptor) -> bool
+    ensures { result ≡ is_reserved_descriptor descriptor.now }
+{
+    let bytes = descriptor.write();
+    !has_text_tag(&bytes) && some_reserved(section_parts(descriptor_section(&bytes)), &bytes)
+}
+
+/// Whether one of the four descriptors has a value that the standard reserves.
+pub fn some_reserved_descriptor(base: &Base) -> bool
+    ensures { result ≡ list_any is_reserved_descriptor base.now.descriptors }
+{
+    base.descriptors
+        .iter()
+        .any(|descriptor| is_reserved_descriptor(descriptor))
 }
 
 /// Whether the week is none of a year, and marks no model year.

@@ -7,7 +7,8 @@ mod extensions;
 mod laws;
 
 pub use bases::{
-    has_other_gamma, has_reserved_input, is_ill_text, is_late_year, is_reserved_week, some_ill_text,
+    has_other_gamma, has_reserved_input, is_ill_text, is_late_year, is_reserved_descriptor,
+    is_reserved_week, some_ill_text, some_reserved_descriptor,
 };
 pub use contents::{Slip, Sort, forum_of, has_extended_tag, has_slip, is_forum_block, is_override};
 pub use extensions::{

@@ -172,6 +172,9 @@ fn asked_of_extensions(rule: Rule) -> &'static str {
         Rule::SectionSum => {
             "the bytes of a DisplayID section after the extension's tag, with its checksum, have the sum 0 modulo 256, and stand within the extension (DisplayID 1.3, 3)"
         }
+        Rule::DescriptorKnown => {
+            "no field of a descriptor has a value that the standard reserves (E-EDID A, 3.10)"
+        }
         _ => "",
     }
 }

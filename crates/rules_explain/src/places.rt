@@ -4,7 +4,7 @@ ghost use Rattle.rules_explain.specs.Places.{fast_clock};
 
 use edid_base::{Base, StandardTiming, are_zeros};
 use edid_cta::{BlockKind, DataBlock, Ext};
-use rules_contents::is_ill_text;
+use rules_contents::{is_ill_text, is_reserved_descriptor};
 use rules_values::{blocks_of, hdmi_of, some_ill_padding};
 use std::alloc::{AllocError, Global};
 
@@ -36,6 +36,21 @@ pub fn ill_text_reported(alloc: Global, base: &Base) -> Result<Option<String>, A
     for descriptor in &base.descriptors {
         number = number.saturating_add(1);
         if is_ill_text(descriptor) {
+            return Ok(Some(format!(in alloc; "descriptor {number}")?));
+        }
+    }
+    Ok(None)
+}
+
+/// The first descriptor with a reserved value, from 1.
+pub fn reserved_descriptor_reported(
+    alloc: Global,
+    base: &Base,
+) -> Result<Option<String>, AllocError> {
+    let mut number = 0_u8;
+    for descriptor in &base.descriptors {
+        number = number.saturating_add(1);
+        if is_reserved_descriptor(descriptor) {
             return Ok(Some(format!(in alloc; "descriptor {number}")?));
         }
     }

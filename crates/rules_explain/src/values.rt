@@ -9,8 +9,8 @@ use crate::formats::{format_reported, map_reported, range_reported, slow_reporte
 use crate::limits::pace_reported;
 use crate::links::{beyond_format_reported, load_reported};
 use crate::places::{
-    capability_reported, empty_reported, ill_text_reported, padding_reported, speakers_reported,
-    tmds_reported, unused_reported,
+    capability_reported, empty_reported, ill_text_reported, padding_reported,
+    reserved_descriptor_reported, speakers_reported, tmds_reported, unused_reported,
 };
 use edid_base::{Base, Descriptor, Timing};
 use edid_cta::{Ext, hdmi_address};
@@ -185,6 +185,7 @@ fn reported_of_edid(
         }
         Rule::FormatsCarried => beyond_format_reported(alloc, extensions),
         Rule::TextForm => ill_text_reported(alloc, base),
+        Rule::DescriptorKnown => reserved_descriptor_reported(alloc, base),
         Rule::YearKnown => {
             let year = base.year;
             Ok(Some(format!(in alloc; "year {year}")?))

@@ -85,12 +85,12 @@ tv 130=1e 154=e3061001 => warn hdr-reserved;
 tv 130=1e 154=e3068001 => warn hdr-reserved;
 tv 130=1e 154=e3060f02 => warn hdr-reserved;
 tv 130=1e 154=e3051002 => none
-tv 113=0000000000 136=db => fail link-clock;
+tv 113=01ff01ffff 136=db => fail link-clock;
 tv 136=dc => warn vic-reserved;
 tv 136=de => warn vic-reserved;
 tv 136=ff => warn vic-reserved;
 tv 136=80 => warn reserved;
-tv 113=0000000000 130=1d 154=e20edb => fail link-clock;
+tv 113=01ff01ffff 130=1d 154=e20edb => fail link-clock;
 tv 130=1d 154=e20edc => warn vic-reserved;
 tv 130=1d 154=e20ddc => none
 tv 130=20 145=6b030c001000b82d20002005e200cf => fail hdmi-vic-reserved;
@@ -140,20 +140,20 @@ tv 130=21 154=e6060f01000000 => none
 /// The same of formats in 4:2:0. The codes are 16, native, 4, 3 and 1; 97, 96, 107 and 106 have a clock of 594 MHz, as 114 and 101
 /// have, 95 one of 297. Limits of 0 limit nothing.
 pub(crate) const MAPS: &str = "\
-tv 113=0000000000 133=61606b6a 130=1d 154=e20f0f => fail link-clock;
-tv 113=0000000000 133=61606b6a 130=1d 154=e20f10 => fail map-past-codes;fail link-clock;
-tv 113=0000000000 133=61606b6a 130=1d 154=e20f8f => fail map-past-codes;fail link-clock;
-tv 113=0000000000 133=61606b6a 130=1e 154=e30f0f01 => fail map-past-codes;fail link-clock;
-tv 113=0000000000 133=61606b6a 130=1e 154=e30f0f00 => fail link-clock;
-tv 113=0000000000 133=61606b6a 130=1c 154=e10f => fail link-clock;
-tv 113=0000000000 133=61606b6a 130=1e 154=e30d0f01 => fail link-clock;
+tv 113=01ff01ffff 133=61606b6a 130=1d 154=e20f0f => fail link-clock;
+tv 113=01ff01ffff 133=61606b6a 130=1d 154=e20f10 => fail map-past-codes;fail link-clock;
+tv 113=01ff01ffff 133=61606b6a 130=1d 154=e20f8f => fail map-past-codes;fail link-clock;
+tv 113=01ff01ffff 133=61606b6a 130=1e 154=e30f0f01 => fail map-past-codes;fail link-clock;
+tv 113=01ff01ffff 133=61606b6a 130=1e 154=e30f0f00 => fail link-clock;
+tv 113=01ff01ffff 133=61606b6a 130=1c 154=e10f => fail link-clock;
+tv 113=01ff01ffff 133=61606b6a 130=1e 154=e30d0f01 => fail link-clock;
 tv base cta 130=07 132=e20f01 => warn no-video-capability;fail map-past-codes;
 tv 130=1d 154=e20f00 => none
 tv 130=1d 154=e20f01 => warn ycc420-slow;
 tv 130=1d 154=e20f02 => warn ycc420-slow;
 tv 130=1d 154=e20f08 => warn ycc420-slow;
-tv 113=0000000000 133=61606b10 130=1d 154=e20f07 => fail link-clock;
-tv 113=0000000000 133=61606b10 130=1d 154=e20f08 => warn ycc420-slow;fail link-clock;
+tv 113=01ff01ffff 133=61606b10 130=1d 154=e20f07 => fail link-clock;
+tv 113=01ff01ffff 133=61606b10 130=1d 154=e20f08 => warn ycc420-slow;fail link-clock;
 tv 130=1d 154=e20e10 => warn ycc420-slow;
 tv 130=1d 154=e20e5f => warn ycc420-slow;
 tv 130=1e 154=e30e6104 => warn ycc420-slow;fail link-clock;
@@ -184,12 +184,12 @@ tv 130=21 145=6c030c001000b82d400101010ce200cf => warn reserved;
 tv 117=0e => none
 tv 117=0d => fail out-of-range;fail timing 1 out-of-range;
 tv 117=0d 134=10 133=04 54=011d => fail out-of-range;
-tv 117=00 => none
+tv 117=00 => warn descriptor-reserved;
 tv 117=ff => none
 tv 136=61 => fail out-of-range;fail link-clock;
 tv 136=dc => warn vic-reserved;
 tv 19=04 146=04 118=01 136=61 => warn out-of-range;
-tv 113=0000000000 136=61 => fail link-clock;
+tv 113=01ff01ffff 136=61 => fail link-clock;
 tv 35=30 => fail out-of-range;
 tv 35=60 => fail out-of-range;
 tv 35=21 => none
@@ -208,7 +208,7 @@ tv 19=04 146=04 118=01 38=6142 => warn out-of-range;
 tv 95=07 => fail text-form;
 tv 93=fe 95=07 => fail no-name;fail text-form;
 tv 93=ff 95=07 12=00000000 => fail no-name;fail text-form;
-tv 93=fb 95=07 => fail no-name;
+tv 93=fb 95=07 => fail no-name;warn descriptor-reserved;
 tv 105=00 => fail text-form;
 tv 105=0a => fail text-form;
 tv 104=20 => none
@@ -241,4 +241,19 @@ tv 20=81 => none
 tv 20=82 => fail input-reserved;
 tv 20=c0 => fail input-reserved;
 tv 20=7f => none
+tv 119=0b => warn descriptor-reserved;
+tv 120=00 => warn descriptor-reserved;
+tv 125=21 => warn descriptor-reserved;
+tv 112=10 => warn descriptor-reserved;
+tv 112=01 => warn descriptor-reserved;
+tv 112=04 => warn descriptor-reserved;
+tv 118=03 => warn descriptor-reserved;
+tv 113=00 => warn descriptor-reserved;
+tv 93=0f => fail no-name;
+tv 93=10 => fail no-name;warn descriptor-reserved;
+tv 93=11 => fail no-name;warn descriptor-reserved;
+tv 93=f6 => fail no-name;warn descriptor-reserved;
+tv 90=000000f700 95=0afffffffffff0000000000000 => fail no-name;
+tv 90=000000f700 95=0afffffffffff8000000000000 => fail no-name;warn descriptor-reserved;
+tv 90=000000f700 95=0bfffffffffff0000000000000 => fail no-name;warn descriptor-reserved;
 ";

@@ -11,17 +11,17 @@ tv 131=f0 54=000000100000000000000000000000000000 => fail no-preferred-timing;
 tv 131=f0 24=0c 54=000000100000000000000000000000000000 => fail first-timing-not-preferred;
 tv 93=fe => fail no-name;
 tv 93=fe 72=000000fc00410a2020202020202020202020 => none
-tv 111=fb => fail no-range-limits;
-tv 19=04 146=04 111=fb => none
-tv 19=04 146=04 111=fb 24=0f => fail no-range-limits;
+tv 111=fb => fail no-range-limits;warn descriptor-reserved;
+tv 19=04 146=04 111=fb => warn descriptor-reserved;
+tv 19=04 146=04 111=fb 24=0f => fail no-range-limits;warn descriptor-reserved;
 tv 19=04 146=04 118=00 => fail gtf-fixed;
-tv 19=04 146=04 118=02 => fail gtf-fixed;
+tv 19=04 146=04 118=02 => fail gtf-fixed;warn descriptor-reserved;
 tv 19=04 146=04 118=04 => fail gtf-fixed;
 tv 19=04 146=04 118=01 => none
-tv 19=04 146=04 118=03 => none
+tv 19=04 146=04 118=03 => warn descriptor-reserved;
 tv 19=04 146=04 118=00 24=0f => none
 tv 113=3d 114=3c => fail limits-reversed;
-tv 113=3d 114=00 => fail limits-reversed;
+tv 113=3d 114=00 => fail limits-reversed;warn descriptor-reserved;
 tv 115=44 116=43 => fail limits-reversed;
 tv 113=3d 114=17 115=44 116=0f => fail limits-reversed;
 tv 19=04 146=04 118=01 113=3d 114=3c => fail limits-reversed;
@@ -72,8 +72,8 @@ tv 135=04 => fail vic-twice;
 tv 133=10 135=90 => fail vic-twice;
 tv 135=10 => fail vic-twice;
 tv 135=05 => none
-tv 113=0000000000 134=c1 135=41 => fail link-clock;
-tv 113=0000000000 134=c0 135=40 => fail vic-twice;fail link-clock;
+tv 113=01ff01ffff 134=c1 135=41 => fail link-clock;
+tv 113=01ff01ffff 134=c0 135=40 => fail vic-twice;fail link-clock;
 tv 134=80 135=00 => warn reserved;
 tv 134=00 135=00 => warn reserved;
 tv 134=80 135=80 => fail vic-twice;warn reserved;
@@ -133,15 +133,15 @@ tv 149=0001 => fail address;
 tv 130=20 154=65030c001000 => warn hdmi-twice;
 tv 130=20 154=65030c010000 => none
 tv 130=20 145=6b030c001000b82d20002001e200cf => fail hdmi-vic-without-vic;fail link-clock;
-tv 113=0000000000 130=20 145=6b030c001000b82d20002001e200cf 135=5f => fail link-clock;
+tv 113=01ff01ffff 130=20 145=6b030c001000b82d20002001e200cf 135=5f => fail link-clock;
 tv 130=20 145=6b030c001000b82d20000001e200cf => warn reserved;
 tv 130=20 145=6b030c001000b82d00002001e200cf => warn reserved;
-tv 113=0000000000 130=21 145=6c030c001000b82d2000400201e200cf 135=5e => fail hdmi-vic-without-vic;fail link-clock;
-tv 113=0000000000 130=21 145=6c030c001000b82d2000400201e200cf 135=5e 134=5f => fail link-clock;
+tv 113=01ff01ffff 130=21 145=6c030c001000b82d2000400201e200cf 135=5e => fail hdmi-vic-without-vic;fail link-clock;
+tv 113=01ff01ffff 130=21 145=6c030c001000b82d2000400201e200cf 135=5e 134=5f => fail link-clock;
 tv 130=22 145=6d030c001000b82da00000002004e200cf => fail hdmi-vic-without-vic;fail link-clock;
-tv 113=0000000000 130=22 145=6d030c001000b82da00000002004e200cf 135=62 => fail link-clock;
+tv 113=01ff01ffff 130=22 145=6d030c001000b82da00000002004e200cf 135=62 => fail link-clock;
 tv 130=24 145=6f030c001000b82de000000000002003e200cf => fail hdmi-vic-without-vic;fail link-clock;
-tv 113=0000000000 130=24 145=6f030c001000b82de000000000002003e200cf 135=5d => fail link-clock;
+tv 113=01ff01ffff 130=24 145=6f030c001000b82de000000000002003e200cf 135=5d => fail link-clock;
 tv 130=22 145=67d85dc40178000065030c000000e200cf => fail hdmi-forum-first;
 tv 130=22 145=65030c00000067d85dc401780000e200cf => none
 tv 130=22 145=67d85dc50178000065030c000000e200cf => none
@@ -157,8 +157,8 @@ tv 131=f0 134=84 => fail native-mixed;
 tv 131=f0 133=10 134=84 => none
 tv 131=f0 133=10 => none
 tv 134=9f => none
-tv 113=0000000000 134=c0 => fail link-clock;
-tv 113=0000000000 134=c1 => fail link-clock;
+tv 113=01ff01ffff 134=c0 => fail link-clock;
+tv 113=01ff01ffff 134=c1 => fail link-clock;
 tv 136=81 => fail native-mixed;
 tv 134=80 => warn reserved;
 tv 134=85 => none

@@ -4,8 +4,8 @@
 /// is 52 by 29 cm, its limits are 23 to 61 Hz and 15 to 68 kHz; the first timing has 2200 pixels and 1125 lines at
 /// 148.5 MHz, which is 60 Hz and 67.5 kHz, the second 1650 and 750 at 74.25 MHz, 60 Hz and 45 kHz.
 pub(crate) const TIMINGS: &str = "\
-tv 113=00 115=00 54=e803 => none
-tv 113=00 115=00 54=e703 => fail timing 1 clock;
+tv 113=01 115=01 54=e803 => none
+tv 113=01 115=01 54=e703 => fail timing 1 clock;
 tv 62=00 => fail timing 1 timing-zero;
 tv 64=05 => fail timing 1 timing-zero;
 tv 64=05 71=9e => none
@@ -13,7 +13,7 @@ tv 64=40 => fail timing 1 timing-zero;
 tv 63=00 => fail timing 1 timing-zero;
 tv 131=f0 54=6207 56=00 58=01 => fail timing 1 timing-zero;
 tv 54=a032 57=00 58=70 => fail timing 1 timing-zero;fail timing 1 h-back-porch;
-tv 131=f0 115=00 54=5806 57=ff 58=7f 59=00 61=00 => fail timing 1 timing-zero;
+tv 131=f0 115=00 54=5806 57=ff 58=7f 59=00 61=00 => warn descriptor-reserved;fail timing 1 timing-zero;
 tv 54=b037 60=00 => fail timing 1 timing-zero;fail timing 1 v-back-porch;
 tv 69=49 => none
 tv 69=4a => fail timing 1 h-back-porch;
@@ -47,15 +47,15 @@ tv 19=04 146=04 118=01 114=78 116=ff 117=ff 136=76 => warn out-of-range;
 tv 54=383180a020e02d10 131=f0 114=ff 116=ff 117=ff => none
 tv 54=383180a020e02d10 131=f0 114=fe 116=ff 117=ff => fail timing 1 out-of-range;
 tv 19=04 146=04 118=01 114=3b => warn out-of-range;warn timing 1 out-of-range;warn timing 2 out-of-range;
-tv 19=04 146=04 118=01 112=02 114=00 => none
-tv 112=02 114=00 => fail limits-reversed;
-tv 113=00 114=00 => none
-tv 113=00 114=01 => fail out-of-range;fail timing 1 out-of-range;fail timing 2 out-of-range;
-tv 115=00 116=00 => none
-tv 115=00 116=01 => fail out-of-range;fail timing 1 out-of-range;fail timing 2 out-of-range;
+tv 19=04 146=04 118=01 112=02 114=00 => warn descriptor-reserved;
+tv 112=02 114=00 => fail limits-reversed;warn descriptor-reserved;
+tv 113=00 114=00 => warn descriptor-reserved;
+tv 113=00 114=01 => fail out-of-range;warn descriptor-reserved;fail timing 1 out-of-range;fail timing 2 out-of-range;
+tv 115=00 116=00 => warn descriptor-reserved;
+tv 115=00 116=01 => fail out-of-range;warn descriptor-reserved;fail timing 1 out-of-range;fail timing 2 out-of-range;
 tv 19=04 146=04 118=01 112=02 113=3d 114=3c => warn out-of-range;warn timing 1 out-of-range;warn timing 2 out-of-range;
 tv 19=04 146=04 118=01 112=03 => warn out-of-range;warn timing 1 out-of-range;warn timing 2 out-of-range;
-tv 19=04 146=04 118=01 112=08 116=00 => none
+tv 19=04 146=04 118=01 112=08 116=00 => warn descriptor-reserved;
 tv 19=04 146=04 118=01 112=0c => warn out-of-range;warn timing 1 out-of-range;warn timing 2 out-of-range;
 tv 154=e703801871382d40582c450008222100001e => fail timing 3 clock;fail timing 3 out-of-range;
 tv 130=31 154=f62200f65002047f07170157802b0037042c0003800400 => none
