@@ -1,5 +1,5 @@
 -- A line of a table is at fault no further on than its longest form goes.
-use Rattle.std.proofs.Common.{◌≡◌, ℕ, zero, suc, ◌+◌, ◌≤◌, ◌==◌, ◌&&◌, Bool, true, false, if◌then◌else◌, List, [], ◌∷◌, length, max, min, Option, Some, None, IfSome, is_none, Result, Ok, Err, IfErr, refl, sym, ap, ◌∙◌, subst, arith}
+use Rattle.std.proofs.Common.{◌≡◌, ℕ, ◌+◌, ◌≤◌, ◌==◌, ◌&&◌, Bool, true, false, if◌then◌else◌, List, [], ◌∷◌, length, max, Option, Some, None, IfSome, is_none, Result, Ok, Err, IfErr, refl, sym, subst, arith}
 use Rattle.text_core.specs.At.{at_word}
 use Rattle.text_core.specs.declared.at.AtWord.{AtWord}
 use Rattle.text_forms.specs.Forms.{Meaning, Place, Said, fault_in, fits, fitting, is_whole, late_time_at, late_time_of_meaning, line_of, meaning_of, meanings_of, most_fitting, read_by, read_of, row_of, said, cause_of, turn_of, unless}

@@ -1,8 +1,7 @@
 -- Texts and their words.
-use Rattle.std.proofs.Common.{◌≡◌, ℕ, ◌+◌, ◌<◌, ◌≤◌, ◌==◌, false, List, [], ◌∷◌, length, ap, sym, refl, ◌∙◌, arith}
+use Rattle.std.proofs.Common.{◌≡◌, ℕ, ◌+◌, ◌≤◌, ◌==◌, false, List, length, sym, arith}
 use Rattle.std.proofs.lemmas.List.Splits.{join_with_byte-slice_split, length-slice_split}
 use Rattle.std.proofs.lemmas.List.Sums.{count_by-le-length}
-use Rattle.text_core.proofs.PartedLemmas.{words_of-some}
 use Rattle.text_core.specs.Words.{words_of, text_of}
 use Rattle.expect_text.specs.Line.{is_expectation, plain_words}
 

@@ -16,7 +16,7 @@ use Rattle.room_lines.specs.declared.expect.How.{How}
 use Rattle.room_lines.specs.declared.expect.How.TheVariants as hows
 use Rattle.expect_text.specs.Line.{is_expectation}
 use Rattle.expect_text.specs.declared.form.ExpectCause.{ExpectCause}
-use Rattle.expect_text.specs.declared.form.ExpectCause.TheVariants.{Word, Pattern, Number, Name, Label, Order, Unmet}
+use Rattle.expect_text.specs.declared.form.ExpectCause.TheVariants.{Word, Pattern, Number}
 use Rattle.expect_text.specs.declared.form.Bound.{Bound}
 use Rattle.expect_text.specs.declared.form.Bound.TheVariants.{Exactly, AtMost, AtLeast}
 use Rattle.expect_text.specs.declared.form.Quantity.{Quantity}
@@ -45,6 +45,10 @@ pub data ExpectLine : Type 0 where
 abbrev pub window_of : WindowRead → ExpectWindow
 window_of (windows.Within duration label) = Within duration label.now
 window_of (windows.From from to) = From from to
+
+abbrev pub window_as : Result WindowRead (AtWord ExpectCause) → Result ExpectWindow (AtWord ExpectCause)
+window_as (Ok window) = Ok (window_of window)
+window_as (Err fault) = Err fault
 
 abbrev pub form_as : FormRead → ExpectLine
 form_as forms.Other = Other
@@ -146,28 +150,36 @@ window_pattern how values = text_of (words_at values (window_start how + 4))
 abbrev pub count_said : How → List Meaning → Option Quantity
 count_said how values = quantity_of how (exact_number (text_at values (window_start how - 1)))
 
+-- a count without a number
+abbrev pub uncounted : How → AtWord ExpectCause
+uncounted how = at_word (window_start how - 1) Number
+
 -- so long from the instant of a label on
-abbrev pub within_by : How → Option Quantity → Option ℕ → List ℕ → List ℕ → Result ExpectLine (AtWord ExpectCause)
-within_by how None duration label pattern = Err (at_word (window_start how - 1) Number)
-within_by how (Some quantity) None label pattern = Err (in_form how 1 Number)
-within_by how (Some quantity) (Some duration) label pattern = Ok (Rounds quantity (Within duration label) pattern)
+abbrev pub within_by : How → Option ℕ → List ℕ → Result ExpectWindow (AtWord ExpectCause)
+within_by how None label = Err (in_form how 1 Number)
+within_by how (Some duration) label = Ok (Within duration label)
+
+abbrev pub within_said : How → List Meaning → Result ExpectWindow (AtWord ExpectCause)
+within_said how values = within_by how (exact_number (window_text how 1 values)) (window_text how 3 values)
 
 -- from one time to another
-abbrev pub between_by : How → Option Quantity → Option ℕ → Option ℕ → List ℕ → Result ExpectLine (AtWord ExpectCause)
-between_by how None from to pattern = Err (at_word (window_start how - 1) Number)
-between_by how (Some quantity) None to pattern = Err (in_form how 1 Number)
-between_by how (Some quantity) (Some from) None pattern = Err (in_form how 3 Number)
-between_by how (Some quantity) (Some from) (Some to) pattern = Ok (Rounds quantity (From from to) pattern)
+abbrev pub between_by : How → Option ℕ → Option ℕ → Result ExpectWindow (AtWord ExpectCause)
+between_by how None to = Err (in_form how 1 Number)
+between_by how (Some from) None = Err (in_form how 3 Number)
+between_by how (Some from) (Some to) = Ok (From from to)
 
-abbrev pub within_said : How → List Meaning → Result ExpectLine (AtWord ExpectCause)
-within_said how values = within_by how (count_said how values) (exact_number (window_text how 1 values)) (window_text how 3 values) (window_pattern how values)
+abbrev pub between_said : How → List Meaning → Result ExpectWindow (AtWord ExpectCause)
+between_said how values = between_by how (exact_number (window_text how 1 values)) (exact_number (window_text how 3 values))
 
-abbrev pub between_said : How → List Meaning → Result ExpectLine (AtWord ExpectCause)
-between_said how values = between_by how (count_said how values) (exact_number (window_text how 1 values)) (exact_number (window_text how 3 values)) (window_pattern how values)
+abbrev pub counted_in : How → List ℕ → Option Quantity → Result ExpectWindow (AtWord ExpectCause) → Result ExpectLine (AtWord ExpectCause)
+counted_in how pattern None window = Err (uncounted how)
+counted_in how pattern (Some quantity) (Err fault) = Err fault
+counted_in how pattern (Some quantity) (Ok window) = Ok (Rounds quantity window pattern)
 
--- the fault of a pattern comes before those of numbers
-abbrev pub if_pattern : How → List Meaning → Result ExpectLine (AtWord ExpectCause) → Result ExpectLine (AtWord ExpectCause)
-if_pattern how values read = if is_pattern (window_pattern how values) then read else Err (in_form how 4 Pattern)
+-- the fault of a pattern comes first, then that of a count, then those of a window
+abbrev pub rounds_in : How → List Meaning → Result ExpectWindow (AtWord ExpectCause) → Result ExpectLine (AtWord ExpectCause)
+rounds_in how values window =
+    if is_pattern (window_pattern how values) then counted_in how (window_pattern how values) (count_said how values) window else Err (in_form how 4 Pattern)
 
 -- ---- expectations of states: times as in scripts, at most 1,000,000,000,000 microseconds
 
@@ -203,8 +215,8 @@ unremarked_by pattern = if is_pattern pattern then Ok (Unremarked (Some pattern)
 
 -- what the values of a form say
 abbrev pub expectation_said : ExpectVerb → List Meaning → Result ExpectLine (AtWord ExpectCause)
-expectation_said (verbs.Within how) values = if_pattern how values (within_said how values)
-expectation_said (verbs.From how) values = if_pattern how values (between_said how values)
+expectation_said (verbs.Within how) values = rounds_in how values (within_said how values)
+expectation_said (verbs.From how) values = rounds_in how values (between_said how values)
 expectation_said verbs.State values = state_by (bad_word (words_at values 4)) (late_time_at values 2) (text_at values 3) (words_at values 4)
 expectation_said verbs.Refused values = Ok (Refused (Some (text_at values 2)) (text_at values 3))
 expectation_said verbs.RefusedAbove values = Ok (Refused None (text_at values 2))

@@ -7,7 +7,7 @@ ghost use Rattle.text_forms.specs.Forms.{late_time_at, said, values_of, words_at
 ghost use Rattle.room_lines.specs.declared.expect.ExpectVerb.TheVariants.{State};
 ghost use Rattle.expect_text.specs.Fault.{IsNear};
 ghost use Rattle.expect_text.specs.declared.form.Quantity.TheVariants.{Counted};
-ghost use Rattle.expect_text.specs.Form.{IsEarly, IsForm, allows, at_least_one, bad_word, between_by, between_said, count_said, empty_from, exact_number, expect_said, expectation_in, expectation_said, form_in, how_of, how_of_bound, if_pattern, in_form, in_window, is_allowed, is_open_ended, is_pattern, lacking, quantity_of, stars, state_by, unremarked_by, window_pattern, window_start, window_text, within_by, within_said};
+ghost use Rattle.expect_text.specs.Form.{IsEarly, IsForm, allows, at_least_one, bad_word, between_said, count_said, counted_in, empty_from, exact_number, expect_said, expectation_in, expectation_said, form_in, how_of, how_of_bound, in_form, in_window, is_allowed, is_open_ended, is_pattern, lacking, quantity_of, rounds_in, stars, state_by, uncounted, unremarked_by, window_as, window_pattern, window_start, window_text, within_said};
 
 use crate::line::has_verb;
 use room_lines::{EXPECT, ExpectVerb, How};
@@ -283,94 +283,87 @@ fn count_said(how: How, line: &FormLine<'_, ExpectVerb>) -> Option<Quantity>
     quantity_of(how, exact_number(line.text(window_start(how) - 1)))
 }
 
-fn within_by<'a>(
-    how: How,
-    count: Option<Quantity>,
-    duration: Option<u64>,
-    label: &'a [u8],
-    pattern: &'a [u8],
-) -> Result<ExpectLine<'a>, AtWord<ExpectCause>>
-    ensures form { IsForm (within_by how count duration label.now pattern.now) result }
-    ensures early { IfOk result IsEarly }
-    ensures bounded { IfErr result IsNear }
+// A count without a number.
+fn uncounted(how: How) -> AtWord<ExpectCause>
+    ensures value { result ≡ uncounted how }
+    ensures bounded { IsNear result }
 {
-    let Some(quantity) = count else {
-        return Err(at_word(window_start(how) - 1, ExpectCause::Number));
-    };
-    let Some(duration) = duration else {
-        return Err(in_form(how, 1, ExpectCause::Number));
-    };
-    Ok(ExpectLine::Rounds {
-        quantity,
-        window: ExpectWindow::Within { duration, label },
-        pattern,
-    })
-}
-
-fn between_by<'a>(
-    how: How,
-    count: Option<Quantity>,
-    from: Option<u64>,
-    to: Option<u64>,
-    pattern: &'a [u8],
-) -> Result<ExpectLine<'a>, AtWord<ExpectCause>>
-    ensures form { IsForm (between_by how count from to pattern.now) result }
-    ensures early { IfOk result IsEarly }
-    ensures bounded { IfErr result IsNear }
-{
-    let Some(quantity) = count else {
-        return Err(at_word(window_start(how) - 1, ExpectCause::Number));
-    };
-    let Some(from) = from else {
-        return Err(in_form(how, 1, ExpectCause::Number));
-    };
-    let Some(to) = to else {
-        return Err(in_form(how, 3, ExpectCause::Number));
-    };
-    Ok(ExpectLine::Rounds {
-        quantity,
-        window: ExpectWindow::From { from, to },
-        pattern,
-    })
+    at_word(window_start(how) - 1, ExpectCause::Number)
 }
 
 fn within_said<'t>(
     how: How,
     line: &FormLine<'t, ExpectVerb>,
-) -> Result<ExpectLine<'t>, AtWord<ExpectCause>>
-    ensures form { IsForm (if_pattern how (values_of line.now) (within_said how (values_of line.now))) result }
-    ensures early { IfOk result IsEarly }
+) -> Result<ExpectWindow<'t>, AtWord<ExpectCause>>
+    ensures value { window_as result ≡ within_said how (values_of line.now) }
     ensures bounded { IfErr result IsNear }
 {
-    let pattern = window_pattern(how, line);
-    if !is_pattern(pattern) {
-        return Err(in_form(how, 4, ExpectCause::Pattern));
+    match exact_number(window_text(how, 1, line)) {
+        None => Err(in_form(how, 1, ExpectCause::Number)),
+        Some(duration) => Ok(ExpectWindow::Within {
+            duration,
+            label: window_text(how, 3, line),
+        }),
     }
-    let duration = exact_number(window_text(how, 1, line));
-    within_by(
-        how,
-        count_said(how, line),
-        duration,
-        window_text(how, 3, line),
-        pattern,
-    )
 }
 
 fn between_said<'t>(
     how: How,
     line: &FormLine<'t, ExpectVerb>,
+) -> Result<ExpectWindow<'t>, AtWord<ExpectCause>>
+    ensures value { window_as result ≡ between_said how (values_of line.now) }
+    ensures bounded { IfErr result IsNear }
+{
+    let Some(from) = exact_number(window_text(how, 1, line)) else {
+        return Err(in_form(how, 1, ExpectCause::Number));
+    };
+    let Some(to) = exact_number(window_text(how, 3, line)) else {
+        return Err(in_form(how, 3, ExpectCause::Number));
+    };
+    Ok(ExpectWindow::From { from, to })
+}
+
+fn counted_in<'t>(
+    how: How,
+    pattern: &'t [u8],
+    count: Option<Quantity>,
+    window: Result<ExpectWindow<'t>, AtWord<ExpectCause>>,
 ) -> Result<ExpectLine<'t>, AtWord<ExpectCause>>
-    ensures form { IsForm (if_pattern how (values_of line.now) (between_said how (values_of line.now))) result }
+    requires near { IfErr window IsNear }
+    ensures form { IsForm (counted_in how pattern.now count (window_as window.entry)) result }
+    ensures early { IfOk result IsEarly }
+    ensures bounded { IfErr result IsNear }
+{
+    let Some(quantity) = count else {
+        return Err(uncounted(how));
+    };
+    match window {
+        Err(fault) => Err(fault),
+        Ok(window) => Ok(ExpectLine::Rounds {
+            quantity,
+            window,
+            pattern,
+        }),
+    }
+}
+
+// The fault of a pattern comes first, then that of a count, then those of a window.
+fn rounds_in<'t>(
+    how: How,
+    line: &FormLine<'t, ExpectVerb>,
+    window: Result<ExpectWindow<'t>, AtWord<ExpectCause>>,
+) -> Result<ExpectLine<'t>, AtWord<ExpectCause>>
+    requires near { IfErr window IsNear }
+    ensures form { IsForm (rounds_in how (values_of line.now) (window_as window.entry)) result }
     ensures early { IfOk result IsEarly }
     ensures bounded { IfErr result IsNear }
 {
     let pattern = window_pattern(how, line);
-    if !is_pattern(pattern) {
-        return Err(in_form(how, 4, ExpectCause::Pattern));
+    if is_pattern(pattern) {
+        counted_in(how, pattern, count_said(how, line), window)
+    } else {
+        Err(in_form(how, 4, ExpectCause::Pattern))
     }
-    let from = exact_number(window_text(how, 1, line));
-    let to = exact_number(window_text(how, 3, line));
-    between_by(how, count_said(how, line), from, to, pattern)
 }
 
 // The number of the first empty word of a state, of which the first has the number 4.
@@ -489,8 +482,8 @@ fn expectation_said<'t>(
     ensures bounded { IfErr result IsNear }
 {
     match line.verb {
-        ExpectVerb::Within(how) => within_said(how, line),
-        ExpectVerb::From(how) => between_said(how, line),
+        ExpectVerb::Within(how) => rounds_in(how, line, within_said(how, line)),
+        ExpectVerb::From(how) => rounds_in(how, line, between_said(how, line)),
         ExpectVerb::State => state_said(line),
         ExpectVerb::Refused => Ok(ExpectLine::Refused {
             label: Some(line.text(2)),
