@@ -142,7 +142,7 @@ no_time [] quantity window pattern h = refl
 no_time (verb ∷ []) quantity window pattern h = refl
 no_time (verb ∷ time ∷ words) quantity window pattern h = by (bytes_eq verb (codes "expect")) refl h
   where
-    by : (b : Bool) → bytes_eq verb (codes "expect") ≡ b → (if b then expectation_in (time ∷ words) else Ok Other) ≡ Ok (Rounds quantity window pattern) → time_in (verb ∷ time ∷ words) ≡ None
+    by : (b : Bool) → bytes_eq verb (codes "expect") ≡ b → (if b then expectation_in (verb ∷ time ∷ words) else Ok Other) ≡ Ok (Rounds quantity window pattern) → time_in (verb ∷ time ∷ words) ≡ None
     by true e k = ap (λ (word : List ℕ). time_in (word ∷ time ∷ words)) ((bytes_eq-Decides verb (codes "expect")).0 e)
     by false e k = cc
 

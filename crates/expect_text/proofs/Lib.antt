@@ -1,4 +1,5 @@
 pub mod Parted
+pub mod Near
 pub mod Counting
 pub mod Tabled
 pub mod Truth

@@ -1,7 +1,6 @@
--- What the line of an expectation says (own): `expect HOW WINDOW PATTERN`, `expect state T DEVICE WORD..`, with `not` before the words or without it, `expect no-remark`, with a pattern or without one, `expect refused NAME WORD`,
--- or `expect refused WORD` below the line of an event, where HOW is nothing, `none`, `once`, `exactly N`, `at most N` or `at least N`, and WINDOW is `within D of NAME`
--- or `from T to U`. Times are in microseconds.
-use Rattle.std.specs.Prelude.{◌≡◌, ℕ, ◌+◌, ◌-◌, ◌^◌, ◌≤◌, ◌==◌, nat_lt, nat_le, ◌&&◌, ◌||◌, not, Bool, if◌then◌else◌, codes, length, filter, slice_index, List, [], ◌∷◌, Option, Some, None, Result, Ok, Err}
+-- What the line of an expectation says (own), by the forms of room_lines. Of the causes that apply to a line it has the first in the order of
+-- `ExpectCause`: the values of a pattern, of a count and of a window are read here. Times are in microseconds.
+use Rattle.std.specs.Prelude.{◌≡◌, ℕ, ◌+◌, ◌-◌, ◌^◌, ◌≤◌, ◌==◌, nat_lt, nat_le, ◌&&◌, ◌||◌, not, Bool, if◌then◌else◌, codes, length, filter, slice_index, List, [], ◌∷◌, Option, Some, None, option_map, Result, Ok, Err}
 use Rattle.std.specs.Option.{option_copied}
 use Rattle.std.specs.Str.{bytes_eq}
 use Rattle.line_wave.specs.Bounds.{latest_event}
@@ -9,13 +8,19 @@ use Rattle.text_core.specs.Number.{number_of}
 use Rattle.text_core.specs.Words.{words_of, text_of}
 use Rattle.text_core.specs.At.{at_word}
 use Rattle.text_core.specs.declared.at.AtWord.{AtWord}
+use Rattle.text_forms.specs.Forms.{Meaning, Said, late_time_at, line_of, text_at, words_at}
+use Rattle.room_lines.specs.Expect.{expect_rows}
+use Rattle.room_lines.specs.declared.expect.ExpectVerb.{ExpectVerb}
+use Rattle.room_lines.specs.declared.expect.ExpectVerb.TheVariants as verbs
+use Rattle.room_lines.specs.declared.expect.How.{How}
+use Rattle.room_lines.specs.declared.expect.How.TheVariants as hows
+use Rattle.expect_text.specs.Line.{is_expectation}
 use Rattle.expect_text.specs.declared.form.ExpectCause.{ExpectCause}
-use Rattle.expect_text.specs.declared.form.ExpectCause.TheVariants.{Word, Pattern, Number, Name, Label, Order, Unmet}
+use Rattle.expect_text.specs.declared.form.ExpectCause.TheVariants.{Word, Pattern, Number}
 use Rattle.expect_text.specs.declared.form.Bound.{Bound}
 use Rattle.expect_text.specs.declared.form.Bound.TheVariants.{Exactly, AtMost, AtLeast}
 use Rattle.expect_text.specs.declared.form.Quantity.{Quantity}
 use Rattle.expect_text.specs.declared.form.Quantity.TheVariants.{AtLeastOnce, Never, Once, Counted}
-use Rattle.expect_text.specs.declared.form.Parts.{Parts as PartsRead}
 use Rattle.expect_text.specs.declared.form.ExpectWindow.{ExpectWindow as WindowRead}
 use Rattle.expect_text.specs.declared.form.ExpectWindow.TheVariants as windows
 use Rattle.expect_text.specs.declared.form.ExpectLine.{ExpectLine as FormRead}
@@ -40,6 +45,10 @@ pub data ExpectLine : Type 0 where
 abbrev pub window_of : WindowRead → ExpectWindow
 window_of (windows.Within duration label) = Within duration label.now
 window_of (windows.From from to) = From from to
+
+abbrev pub window_as : Result WindowRead (AtWord ExpectCause) → Result ExpectWindow (AtWord ExpectCause)
+window_as (Ok window) = Ok (window_of window)
+window_as (Err fault) = Err fault
 
 abbrev pub form_as : FormRead → ExpectLine
 form_as forms.Other = Other
@@ -87,115 +96,90 @@ is_allowed Never count = allows Exactly 0 count
 is_allowed Once count = allows Exactly 1 count
 is_allowed (Counted bound number) count = allows bound number count
 
--- `at least 0` allows every count, and is refused
-abbrev pub count_number : Bound → Option ℕ → Option ℕ
-count_number bound None = None
-count_number Exactly (Some number) = Some number
-count_number AtMost (Some number) = Some number
-count_number AtLeast (Some number) = if number == 0 then None else Some number
+-- `at least 0` allows every count, and is none
+abbrev pub at_least_one : Option ℕ → Option ℕ
+at_least_one None = None
+at_least_one (Some number) = if number == 0 then None else Some number
 
--- the number of the word that is a count's number
-abbrev pub number_word : Bound → ℕ
-number_word Exactly = 2
-number_word AtMost = 3
-number_word AtLeast = 3
+-- how many rounds, with this number where one is said
+abbrev pub quantity_of : How → Option ℕ → Option Quantity
+quantity_of hows.AtLeastOnce number = Some AtLeastOnce
+quantity_of hows.Never number = Some Never
+quantity_of hows.Once number = Some Once
+quantity_of hows.Exactly number = option_map (Counted Exactly) number
+quantity_of hows.AtMost number = option_map (Counted AtMost) number
+quantity_of hows.AtLeast number = option_map (Counted AtLeast) (at_least_one number)
+
+abbrev pub how_of_bound : Bound → How
+how_of_bound Exactly = hows.Exactly
+how_of_bound AtMost = hows.AtMost
+how_of_bound AtLeast = hows.AtLeast
+
+abbrev pub how_of : Quantity → How
+how_of AtLeastOnce = hows.AtLeastOnce
+how_of Never = hows.Never
+how_of Once = hows.Once
+how_of (Counted bound number) = how_of_bound bound
 
 -- ---- expectations of rounds
 
--- the number of the word with which a window begins
-abbrev pub window_word : Quantity → ℕ
-window_word AtLeastOnce = 1
-window_word Never = 2
-window_word Once = 2
-window_word (Counted bound number) = number_word bound + 1
+-- the number of the word with which a window begins: a count's number stands before it
+abbrev pub window_start : How → ℕ
+window_start hows.AtLeastOnce = 1
+window_start hows.Never = 2
+window_start hows.Once = 2
+window_start hows.Exactly = 3
+window_start hows.AtMost = 4
+window_start hows.AtLeast = 4
+
+-- the word at fault that stands so many after the first one of a window
+abbrev pub in_form : How → ℕ → ExpectCause → AtWord ExpectCause
+in_form how after cause = at_word (window_start how + after) cause
 
 abbrev pub in_window : Quantity → ℕ → ExpectCause → AtWord ExpectCause
-in_window quantity after cause = at_word (window_word quantity + after) cause
+in_window quantity after cause = in_form (how_of quantity) after cause
 
--- a window's two values, and the pattern
-pub record Parts : Type 0 where
-  pub first : List ℕ
-  pub second : List ℕ
-  pub pattern : List ℕ
+-- the word that stands there
+abbrev pub window_text : How → ℕ → List Meaning → List ℕ
+window_text how after values = text_at values (window_start how + after)
 
-abbrev pub parts_as : PartsRead → Parts
-parts_as parts = record { first = parts.first.now; second = parts.second.now; pattern = parts.pattern.now }
+-- the text of the words from there on
+abbrev pub window_pattern : How → List Meaning → List ℕ
+window_pattern how values = text_of (words_at values (window_start how + 4))
 
-abbrev pub pattern_by : Quantity → List ℕ → List ℕ → List ℕ → Result Parts (AtWord ExpectCause)
-pattern_by quantity first second pattern =
-    if is_pattern pattern then Ok (record { first = first; second = second; pattern = pattern }) else Err (in_window quantity 4 Pattern)
+abbrev pub count_said : How → List Meaning → Option Quantity
+count_said how values = quantity_of how (exact_number (text_at values (window_start how - 1)))
 
-abbrev pub pattern_in : Quantity → List ℕ → List ℕ → List (List ℕ) → Result Parts (AtWord ExpectCause)
-pattern_in quantity first second [] = Err (in_window quantity 4 Word)
-pattern_in quantity first second (word ∷ words) = pattern_by quantity first second (text_of (word ∷ words))
+-- a count without a number
+abbrev pub uncounted : How → AtWord ExpectCause
+uncounted how = at_word (window_start how - 1) Number
 
-abbrev pub second_in : Quantity → List ℕ → List (List ℕ) → Result Parts (AtWord ExpectCause)
-second_in quantity first [] = Err (in_window quantity 3 Word)
-second_in quantity first (second ∷ words) = pattern_in quantity first second words
+-- so long from the instant of a label on
+abbrev pub within_by : How → Option ℕ → List ℕ → Result ExpectWindow (AtWord ExpectCause)
+within_by how None label = Err (in_form how 1 Number)
+within_by how (Some duration) label = Ok (Within duration label)
 
--- the words after a window's first one, with this one between its values
-abbrev pub values_around : Quantity → List ℕ → List (List ℕ) → Result Parts (AtWord ExpectCause)
-values_around quantity joint [] = Err (in_window quantity 1 Word)
-values_around quantity joint (first ∷ []) = Err (in_window quantity 2 Word)
-values_around quantity joint (first ∷ word ∷ words) = if bytes_eq word joint then second_in quantity first words else Err (in_window quantity 2 Word)
+abbrev pub within_said : How → List Meaning → Result ExpectWindow (AtWord ExpectCause)
+within_said how values = within_by how (exact_number (window_text how 1 values)) (window_text how 3 values)
 
-abbrev pub within : Quantity → Option ℕ → Parts → Result ExpectLine (AtWord ExpectCause)
-within quantity None parts = Err (in_window quantity 1 Number)
-within quantity (Some duration) parts = Ok (Rounds quantity (Within duration parts.second) parts.pattern)
+-- from one time to another
+abbrev pub between_by : How → Option ℕ → Option ℕ → Result ExpectWindow (AtWord ExpectCause)
+between_by how None to = Err (in_form how 1 Number)
+between_by how (Some from) None = Err (in_form how 3 Number)
+between_by how (Some from) (Some to) = Ok (From from to)
 
-abbrev pub within_by : Quantity → Result Parts (AtWord ExpectCause) → Result ExpectLine (AtWord ExpectCause)
-within_by quantity (Err fault) = Err fault
-within_by quantity (Ok parts) = within quantity (exact_number parts.first) parts
+abbrev pub between_said : How → List Meaning → Result ExpectWindow (AtWord ExpectCause)
+between_said how values = between_by how (exact_number (window_text how 1 values)) (exact_number (window_text how 3 values))
 
-abbrev pub rounds_between : Quantity → Option ℕ → Option ℕ → Parts → Result ExpectLine (AtWord ExpectCause)
-rounds_between quantity None to parts = Err (in_window quantity 1 Number)
-rounds_between quantity (Some from) None parts = Err (in_window quantity 3 Number)
-rounds_between quantity (Some from) (Some to) parts = Ok (Rounds quantity (From from to) parts.pattern)
+abbrev pub counted_in : How → List ℕ → Option Quantity → Result ExpectWindow (AtWord ExpectCause) → Result ExpectLine (AtWord ExpectCause)
+counted_in how pattern None window = Err (uncounted how)
+counted_in how pattern (Some quantity) (Err fault) = Err fault
+counted_in how pattern (Some quantity) (Ok window) = Ok (Rounds quantity window pattern)
 
-abbrev pub between_by : Quantity → Result Parts (AtWord ExpectCause) → Result ExpectLine (AtWord ExpectCause)
-between_by quantity (Err fault) = Err fault
-between_by quantity (Ok parts) = rounds_between quantity (exact_number parts.first) (exact_number parts.second) parts
-
--- `within D of NAME PATTERN` or `from T to U PATTERN`
-abbrev pub rounds_in : Quantity → List (List ℕ) → Result ExpectLine (AtWord ExpectCause)
-rounds_in quantity [] = Err (in_window quantity 0 Word)
-rounds_in quantity (kind ∷ words) =
-    if bytes_eq kind (codes "within") then within_by quantity (values_around quantity (codes "of") words)
-    else if bytes_eq kind (codes "from") then between_by quantity (values_around quantity (codes "to") words)
-    else Err (in_window quantity 0 Word)
-
--- ---- counts of rounds
-
--- a count without a number, where the rounds after it have this fault, of this cause: those of words and of the pattern come first
-abbrev pub uncounted_by : Bound → AtWord ExpectCause → ExpectCause → AtWord ExpectCause
-uncounted_by bound fault Word = fault
-uncounted_by bound fault Pattern = fault
-uncounted_by bound fault Number = at_word (number_word bound) Number
-uncounted_by bound fault Name = at_word (number_word bound) Number
-uncounted_by bound fault Label = at_word (number_word bound) Number
-uncounted_by bound fault Order = at_word (number_word bound) Number
-uncounted_by bound fault Unmet = at_word (number_word bound) Number
-
-abbrev pub uncounted : Bound → Result ExpectLine (AtWord ExpectCause) → AtWord ExpectCause
-uncounted bound (Ok form) = at_word (number_word bound) Number
-uncounted bound (Err fault) = uncounted_by bound fault fault.cause
-
-abbrev pub counted_by : Bound → Option ℕ → List (List ℕ) → Result ExpectLine (AtWord ExpectCause)
-counted_by bound None words = Err (uncounted bound (rounds_in (Counted bound 0) words))
-counted_by bound (Some number) words = rounds_in (Counted bound number) words
-
--- a number, and rounds
-abbrev pub counted_in : Bound → List (List ℕ) → Result ExpectLine (AtWord ExpectCause)
-counted_in bound [] = Err (at_word (number_word bound) Word)
-counted_in bound (number ∷ words) = counted_by bound (count_number bound (exact_number number)) words
-
--- `most N ..` or `least N ..`
-abbrev pub bounded_in : List (List ℕ) → Result ExpectLine (AtWord ExpectCause)
-bounded_in [] = Err (at_word 2 Word)
-bounded_in (word ∷ words) =
-    if bytes_eq word (codes "most") then counted_in AtMost words
-    else if bytes_eq word (codes "least") then counted_in AtLeast words
-    else Err (at_word 2 Word)
+-- the fault of a pattern comes first, then that of a count, then those of a window
+abbrev pub rounds_in : How → List Meaning → Result ExpectWindow (AtWord ExpectCause) → Result ExpectLine (AtWord ExpectCause)
+rounds_in how values window =
+    if is_pattern (window_pattern how values) then counted_in how (window_pattern how values) (count_said how values) window else Err (in_form how 4 Pattern)
 
 -- ---- expectations of states: times as in scripts, at most 1,000,000,000,000 microseconds
 
@@ -204,17 +188,9 @@ abbrev pub empty_from : ℕ → List (List ℕ) → Option ℕ
 empty_from number [] = None
 empty_from number (word ∷ words) = if nat_lt 0 (length word) then empty_from (number + 1) words else Some number
 
-abbrev pub state_at_time : Option ℕ → List ℕ → List (List ℕ) → Result ExpectLine (AtWord ExpectCause)
-state_at_time None device words = Err (at_word 2 Number)
-state_at_time (Some time) device words = if nat_lt latest_event time then Err (at_word 2 Number) else Ok (State time device words)
-
-abbrev pub state_by : Option ℕ → Option ℕ → List ℕ → List (List ℕ) → Result ExpectLine (AtWord ExpectCause)
-state_by (Some empty) time device words = Err (at_word empty Word)
-state_by None time device words = state_at_time time device words
-
--- the number of a word that is missing after `not`
+-- the number of a word that is missing: there is one, and another one after `not`
 abbrev pub lacking : List (List ℕ) → Option ℕ
-lacking [] = None
+lacking [] = Some 4
 lacking (word ∷ []) = if bytes_eq word (codes "not") then Some 5 else None
 lacking (word ∷ other ∷ words) = None
 
@@ -223,47 +199,45 @@ abbrev pub or_lacking : Option ℕ → Option ℕ → Option ℕ
 or_lacking None lacked = lacked
 or_lacking (Some empty) lacked = Some empty
 
+abbrev pub bad_word : List (List ℕ) → Option ℕ
+bad_word words = or_lacking (empty_from 4 words) (lacking words)
+
 -- a time, a device, perhaps `not`, and at least one word; no word is empty
-abbrev pub state_in : List (List ℕ) → Result ExpectLine (AtWord ExpectCause)
-state_in [] = Err (at_word 2 Word)
-state_in (time ∷ []) = Err (at_word 3 Word)
-state_in (time ∷ device ∷ []) = Err (at_word 4 Word)
-state_in (time ∷ device ∷ word ∷ words) = state_by (or_lacking (empty_from 4 (word ∷ words)) (lacking (word ∷ words))) (number_of time) device (word ∷ words)
+abbrev pub state_by : Option ℕ → Option ℕ → List ℕ → List (List ℕ) → Result ExpectLine (AtWord ExpectCause)
+state_by (Some bad) time device words = Err (at_word bad Word)
+state_by None None device words = Err (at_word 2 Number)
+state_by None (Some time) device words = Ok (State time device words)
 
 -- ---- all
 
--- a label and a word, or a word alone
-abbrev pub refused_in : List (List ℕ) → Result ExpectLine (AtWord ExpectCause)
-refused_in [] = Err (at_word 2 Word)
-refused_in (word ∷ []) = Ok (Refused None word)
-refused_in (name ∷ word ∷ []) = Ok (Refused (Some name) word)
-refused_in (name ∷ word ∷ more ∷ words) = Err (at_word 4 Word)
-
--- no word, or a pattern
 abbrev pub unremarked_by : List ℕ → Result ExpectLine (AtWord ExpectCause)
 unremarked_by pattern = if is_pattern pattern then Ok (Unremarked (Some pattern)) else Err (at_word 2 Pattern)
 
-abbrev pub unremarked_in : List (List ℕ) → Result ExpectLine (AtWord ExpectCause)
-unremarked_in [] = Ok (Unremarked None)
-unremarked_in (word ∷ words) = unremarked_by (text_of (word ∷ words))
+-- what the values of a form say
+abbrev pub expectation_said : ExpectVerb → List Meaning → Result ExpectLine (AtWord ExpectCause)
+expectation_said (verbs.Within how) values = rounds_in how values (within_said how values)
+expectation_said (verbs.From how) values = rounds_in how values (between_said how values)
+expectation_said verbs.State values = state_by (bad_word (words_at values 4)) (late_time_at values 2) (text_at values 3) (words_at values 4)
+expectation_said verbs.Refused values = Ok (Refused (Some (text_at values 2)) (text_at values 3))
+expectation_said verbs.RefusedAbove values = Ok (Refused None (text_at values 2))
+expectation_said verbs.NoRemark values = Ok (Unremarked None)
+expectation_said verbs.NoRemarkOf values = unremarked_by (text_of (words_at values 2))
 
--- the words after `expect`
+-- what words say by the table of forms
+unfoldable pub expect_said : List (List ℕ) → Said ExpectVerb
+expect_said words = line_of expect_rows words
+
+abbrev pub expectation_by : Said ExpectVerb → Result ExpectLine (AtWord ExpectCause)
+expectation_by (Err fault) = Err (at_word fault.word Word)
+expectation_by (Ok line) = expectation_said line.0 line.1
+
 abbrev pub expectation_in : List (List ℕ) → Result ExpectLine (AtWord ExpectCause)
-expectation_in [] = Err (at_word 1 Word)
-expectation_in (how ∷ words) =
-    if bytes_eq how (codes "refused") then refused_in words
-    else if bytes_eq how (codes "state") then state_in words
-    else if bytes_eq how (codes "no-remark") then unremarked_in words
-    else if bytes_eq how (codes "none") then rounds_in Never words
-    else if bytes_eq how (codes "once") then rounds_in Once words
-    else if bytes_eq how (codes "exactly") then counted_in Exactly words
-    else if bytes_eq how (codes "at") then bounded_in words
-    else rounds_in AtLeastOnce (how ∷ words)
+expectation_in words = expectation_by (expect_said words)
 
 -- what a line says, by its words without the label; a label alone says nothing
 abbrev pub form_in : List (List ℕ) → Result ExpectLine (AtWord ExpectCause)
 form_in [] = Err (at_word 0 Word)
-form_in (verb ∷ words) = if bytes_eq verb (codes "expect") then expectation_in words else Ok Other
+form_in (verb ∷ words) = if is_expectation (verb ∷ words) then expectation_in (verb ∷ words) else Ok Other
 
 -- the time of a state is at most 1,000,000,000,000
 abbrev pub IsEarly : FormRead → Type 0
@@ -277,7 +251,3 @@ IsEarly (forms.Unremarked pattern) = Unit {0}
 abbrev pub IsForm : Result ExpectLine (AtWord ExpectCause) → Result FormRead (AtWord ExpectCause) → Type 0
 IsForm said (Ok form) = said ≡ Ok (form_as form)
 IsForm said (Err fault) = said ≡ Err fault
-
-abbrev pub AreParts : Result Parts (AtWord ExpectCause) → Result PartsRead (AtWord ExpectCause) → Type 0
-AreParts said (Ok parts) = said ≡ Ok (parts_as parts)
-AreParts said (Err fault) = said ≡ Err fault

@@ -1,14 +1,18 @@
 //! What the line of an expectation says.
-ghost use Rattle.std.specs.Prelude.{◌≡◌, ◌≤◌, ◌<◌, ◌+◌, ◌^◌, length, IfOk, IfErr, IfSome, codes};
+ghost use Rattle.std.specs.Prelude.{◌≡◌, ◌≤◌, ◌<◌, ◌+◌, ◌^◌, length, option_map, IfOk, IfErr, IfSome};
 ghost use Rattle.std.specs.Option.{option_copied};
-ghost use Rattle.text_core.specs.Words.{words_after, words_of};
-ghost use Rattle.text_core.specs.Number.{number_of};
+ghost use Rattle.line_wave.specs.Bounds.{latest_event};
+ghost use Rattle.text_core.specs.Words.{text_of, words_after, words_of};
+ghost use Rattle.text_forms.specs.Forms.{late_time_at, said, values_of, words_at};
+ghost use Rattle.room_lines.specs.declared.expect.ExpectVerb.TheVariants.{State};
 ghost use Rattle.expect_text.specs.Fault.{IsNear};
 ghost use Rattle.expect_text.specs.declared.form.Quantity.TheVariants.{Counted};
-ghost use Rattle.expect_text.specs.Form.{AreParts, IsEarly, IsForm, allows, between_by, bounded_in, count_number, counted_by, counted_in, empty_from, exact_number, expectation_in, form_in, in_window, is_allowed, is_open_ended, lacking, or_lacking, is_pattern, number_word, parts_as, pattern_by, pattern_in, refused_in, rounds_between, rounds_in, second_in, stars, state_at_time, state_in, uncounted, uncounted_by, unremarked_by, unremarked_in, values_around, window_word, within, within_by};
+ghost use Rattle.expect_text.specs.Form.{IsEarly, IsForm, allows, at_least_one, bad_word, between_said, count_said, counted_in, empty_from, exact_number, expect_said, expectation_in, expectation_said, form_in, how_of, how_of_bound, in_form, in_window, is_allowed, is_open_ended, is_pattern, lacking, quantity_of, rounds_in, stars, state_by, uncounted, unremarked_by, window_as, window_pattern, window_start, window_text, within_said};
 
-use line_wave::LATEST_EVENT;
+use crate::line::has_verb;
+use room_lines::{EXPECT, ExpectVerb, How};
 use text_core::{AtWord, at_word, byte_at, first_word, number_in};
+use text_forms::{FormLine, LineCause, read_line};
 use thiserror::Error;
 
 /// Why the line of a label or an expectation is refused: the first of these that applies.
@@ -129,37 +133,49 @@ pub enum ExpectLine<'a> {
     },
 }
 
-// What a window of rounds says: its two values, and the pattern.
-#[derive(Clone, Copy)]
-struct Parts<'a> {
-    first: &'a [u8],
-    second: &'a [u8],
-    pattern: &'a [u8],
-}
-
-// The number of the word that is a count's number.
-fn number_word(bound: Bound) -> usize
-    ensures value { result ≡ number_word bound }
-    ensures few { result ≤ 3 }
+// The form of a count.
+fn how_of_bound(bound: Bound) -> How
+    ensures { result ≡ how_of_bound bound }
 {
     match bound {
-        Bound::Exactly => 2,
-        Bound::AtMost => 3,
-        Bound::AtLeast => 3,
+        Bound::Exactly => How::Exactly,
+        Bound::AtMost => How::AtMost,
+        Bound::AtLeast => How::AtLeast,
     }
 }
 
-// The number of the word with which the window of an expectation begins.
-fn window_word(quantity: Quantity) -> usize
-    ensures value { result ≡ window_word quantity }
-    ensures few { result ≤ 4 }
+fn how_of(quantity: Quantity) -> How
+    ensures { result ≡ how_of quantity }
 {
     match quantity {
-        Quantity::AtLeastOnce => 1,
-        Quantity::Never => 2,
-        Quantity::Once => 2,
-        Quantity::Counted { bound, .. } => number_word(bound) + 1,
+        Quantity::AtLeastOnce => How::AtLeastOnce,
+        Quantity::Never => How::Never,
+        Quantity::Once => How::Once,
+        Quantity::Counted { bound, .. } => how_of_bound(bound),
     }
+}
+
+// The number of the word with which a window begins. A count's number stands before it.
+fn window_start(how: How) -> usize
+    ensures value { result ≡ window_start how }
+    ensures later { 1 ≤ result }
+    ensures few { result ≤ 4 }
+{
+    match how {
+        How::AtLeastOnce => 1,
+        How::Never | How::Once => 2,
+        How::Exactly => 3,
+        How::AtMost | How::AtLeast => 4,
+    }
+}
+
+// The word at fault that stands so many after the first one of a window.
+fn in_form(how: How, after: usize, cause: ExpectCause) -> AtWord<ExpectCause>
+    requires few { after < 2 ^ 63 + 8 }
+    ensures value { result ≡ in_form how after cause }
+    ensures bounded { IsNear result }
+{
+    at_word(window_start(how) + after, cause)
 }
 
 /// The word at fault that stands so many after the first one of a window.
@@ -168,7 +184,7 @@ pub(crate) fn in_window(quantity: Quantity, after: usize, cause: ExpectCause) ->
     ensures value { result ≡ in_window quantity after cause }
     ensures bounded { IsNear result }
 {
-    at_word(window_word(quantity) + after, cause)
+    in_form(how_of(quantity), after, cause)
 }
 
 fn stars(text: &[u8]) -> usize
@@ -211,252 +227,142 @@ pub fn exact_number(word: &[u8]) -> Option<u64>
     }
 }
 
-fn pattern_by<'a>(
-    quantity: Quantity,
-    first: &'a [u8],
-    second: &'a [u8],
-    pattern: &'a [u8],
-) -> Result<Parts<'a>, AtWord<ExpectCause>>
-    ensures form { AreParts (pattern_by quantity first.now second.now pattern.now) result }
-    ensures bounded { IfErr result IsNear }
+// The text from a place on.
+fn text_from<'t>(line: &FormLine<'t, ExpectVerb>, place: usize) -> &'t [u8]
+    ensures { result.now ≡ text_of (words_at (values_of line.now) place) }
 {
-    if is_pattern(pattern) {
-        Ok(Parts {
-            first,
-            second,
-            pattern,
-        })
-    } else {
-        Err(in_window(quantity, 4, ExpectCause::Pattern))
+    match line.rest(place) {
+        Some(text) => text,
+        None => &[],
     }
 }
 
-fn pattern_in<'a>(
-    quantity: Quantity,
-    first: &'a [u8],
-    second: &'a [u8],
-    rest: Option<&'a [u8]>,
-) -> Result<Parts<'a>, AtWord<ExpectCause>>
-    ensures form { AreParts (pattern_in quantity first.now second.now (words_after (option_copied rest.entry))) result }
-    ensures bounded { IfErr result IsNear }
+fn window_text<'t>(how: How, after: usize, line: &FormLine<'t, ExpectVerb>) -> &'t [u8]
+    requires few { after ≤ 4 }
+    ensures { result.now ≡ window_text how after (values_of line.now) }
 {
-    match rest {
-        None => Err(in_window(quantity, 4, ExpectCause::Word)),
-        Some(pattern) => pattern_by(quantity, first, second, pattern),
+    line.text(window_start(how) + after)
+}
+
+fn window_pattern<'t>(how: How, line: &FormLine<'t, ExpectVerb>) -> &'t [u8]
+    ensures { result.now ≡ window_pattern how (values_of line.now) }
+{
+    text_from(line, window_start(how) + 4)
+}
+
+fn at_least_one(number: Option<u64>) -> Option<u64>
+    ensures { result ≡ at_least_one number }
+{
+    let number = number?;
+    if number == 0 { None } else { Some(number) }
+}
+
+fn counted(bound: Bound, number: Option<u64>) -> Option<Quantity>
+    ensures { result ≡ option_map (Counted bound) number }
+{
+    let number = number?;
+    Some(Quantity::Counted { bound, number })
+}
+
+fn quantity_of(how: How, number: Option<u64>) -> Option<Quantity>
+    ensures { result ≡ quantity_of how number }
+{
+    match how {
+        How::AtLeastOnce => Some(Quantity::AtLeastOnce),
+        How::Never => Some(Quantity::Never),
+        How::Once => Some(Quantity::Once),
+        How::Exactly => counted(Bound::Exactly, number),
+        How::AtMost => counted(Bound::AtMost, number),
+        How::AtLeast => counted(Bound::AtLeast, at_least_one(number)),
     }
 }
 
-fn second_in<'a>(
-    quantity: Quantity,
-    first: &'a [u8],
-    rest: Option<&'a [u8]>,
-) -> Result<Parts<'a>, AtWord<ExpectCause>>
-    ensures form { AreParts (second_in quantity first.now (words_after (option_copied rest.entry))) result }
-    ensures bounded { IfErr result IsNear }
+fn count_said(how: How, line: &FormLine<'_, ExpectVerb>) -> Option<Quantity>
+    ensures { result ≡ count_said how (values_of line.now) }
 {
-    let Some(text) = rest else {
-        return Err(in_window(quantity, 3, ExpectCause::Word));
-    };
-    let (second, rest) = first_word(text);
-    pattern_in(quantity, first, second, rest)
+    quantity_of(how, exact_number(line.text(window_start(how) - 1)))
 }
 
-// What stands after the first word of a window that has this word between its values.
-fn values_around<'a>(
-    quantity: Quantity,
-    joint: &[u8],
-    rest: Option<&'a [u8]>,
-) -> Result<Parts<'a>, AtWord<ExpectCause>>
-    ensures form { AreParts (values_around quantity joint.now (words_after (option_copied rest.entry))) result }
-    ensures bounded { IfErr result IsNear }
+// A count without a number.
+fn uncounted(how: How) -> AtWord<ExpectCause>
+    ensures value { result ≡ uncounted how }
+    ensures bounded { IsNear result }
 {
-    let Some(text) = rest else {
-        return Err(in_window(quantity, 1, ExpectCause::Word));
-    };
-    let (first, rest) = first_word(text);
-    let Some(text) = rest else {
-        return Err(in_window(quantity, 2, ExpectCause::Word));
-    };
-    let (word, rest) = first_word(text);
-    if word == joint {
-        second_in(quantity, first, rest)
-    } else {
-        Err(in_window(quantity, 2, ExpectCause::Word))
-    }
+    at_word(window_start(how) - 1, ExpectCause::Number)
 }
 
-fn within<'a>(quantity: Quantity, parts: &Parts<'a>) -> Result<ExpectLine<'a>, AtWord<ExpectCause>>
-    ensures form { IsForm (within quantity (exact_number parts.now.first.now) (parts_as parts.now)) result }
-    ensures early { IfOk result IsEarly }
+fn within_said<'t>(
+    how: How,
+    line: &FormLine<'t, ExpectVerb>,
+) -> Result<ExpectWindow<'t>, AtWord<ExpectCause>>
+    ensures value { window_as result ≡ within_said how (values_of line.now) }
     ensures bounded { IfErr result IsNear }
 {
-    let Some(duration) = exact_number(parts.first) else {
-        return Err(in_window(quantity, 1, ExpectCause::Number));
-    };
-    Ok(ExpectLine::Rounds {
-        quantity,
-        window: ExpectWindow::Within {
+    match exact_number(window_text(how, 1, line)) {
+        None => Err(in_form(how, 1, ExpectCause::Number)),
+        Some(duration) => Ok(ExpectWindow::Within {
             duration,
-            label: parts.second,
-        },
-        pattern: parts.pattern,
-    })
+            label: window_text(how, 3, line),
+        }),
+    }
 }
 
-fn rounds_between<'a>(
-    quantity: Quantity,
-    parts: &Parts<'a>,
-) -> Result<ExpectLine<'a>, AtWord<ExpectCause>>
-    ensures form { IsForm (rounds_between quantity (exact_number parts.now.first.now) (exact_number parts.now.second.now) (parts_as parts.now)) result }
+fn between_said<'t>(
+    how: How,
+    line: &FormLine<'t, ExpectVerb>,
+) -> Result<ExpectWindow<'t>, AtWord<ExpectCause>>
+    ensures value { window_as result ≡ between_said how (values_of line.now) }
+    ensures bounded { IfErr result IsNear }
+{
+    let Some(from) = exact_number(window_text(how, 1, line)) else {
+        return Err(in_form(how, 1, ExpectCause::Number));
+    };
+    let Some(to) = exact_number(window_text(how, 3, line)) else {
+        return Err(in_form(how, 3, ExpectCause::Number));
+    };
+    Ok(ExpectWindow::From { from, to })
+}
+
+fn counted_in<'t>(
+    how: How,
+    pattern: &'t [u8],
+    count: Option<Quantity>,
+    window: Result<ExpectWindow<'t>, AtWord<ExpectCause>>,
+) -> Result<ExpectLine<'t>, AtWord<ExpectCause>>
+    requires near { IfErr window IsNear }
+    ensures form { IsForm (counted_in how pattern.now count (window_as window.entry)) result }
     ensures early { IfOk result IsEarly }
     ensures bounded { IfErr result IsNear }
 {
-    let Some(from) = exact_number(parts.first) else {
-        return Err(in_window(quantity, 1, ExpectCause::Number));
+    let Some(quantity) = count else {
+        return Err(uncounted(how));
     };
-    let Some(to) = exact_number(parts.second) else {
-        return Err(in_window(quantity, 3, ExpectCause::Number));
-    };
-    Ok(ExpectLine::Rounds {
-        quantity,
-        window: ExpectWindow::From { from, to },
-        pattern: parts.pattern,
-    })
-}
-
-fn within_in<'a>(
-    quantity: Quantity,
-    rest: Option<&'a [u8]>,
-) -> Result<ExpectLine<'a>, AtWord<ExpectCause>>
-    ensures form { IsForm (within_by quantity (values_around quantity (codes "of") (words_after (option_copied rest.entry)))) result }
-    ensures early { IfOk result IsEarly }
-    ensures bounded { IfErr result IsNear }
-{
-    match values_around(quantity, b"of", rest) {
+    match window {
         Err(fault) => Err(fault),
-        Ok(parts) => within(quantity, &parts),
+        Ok(window) => Ok(ExpectLine::Rounds {
+            quantity,
+            window,
+            pattern,
+        }),
     }
 }
 
-fn between_in<'a>(
-    quantity: Quantity,
-    rest: Option<&'a [u8]>,
-) -> Result<ExpectLine<'a>, AtWord<ExpectCause>>
-    ensures form { IsForm (between_by quantity (values_around quantity (codes "to") (words_after (option_copied rest.entry)))) result }
+// The fault of a pattern comes first, then that of a count, then those of a window.
+fn rounds_in<'t>(
+    how: How,
+    line: &FormLine<'t, ExpectVerb>,
+    window: Result<ExpectWindow<'t>, AtWord<ExpectCause>>,
+) -> Result<ExpectLine<'t>, AtWord<ExpectCause>>
+    requires near { IfErr window IsNear }
+    ensures form { IsForm (rounds_in how (values_of line.now) (window_as window.entry)) result }
     ensures early { IfOk result IsEarly }
     ensures bounded { IfErr result IsNear }
 {
-    match values_around(quantity, b"to", rest) {
-        Err(fault) => Err(fault),
-        Ok(parts) => rounds_between(quantity, &parts),
-    }
-}
-
-fn rounds_in<'a>(
-    quantity: Quantity,
-    rest: Option<&'a [u8]>,
-) -> Result<ExpectLine<'a>, AtWord<ExpectCause>>
-    ensures form { IsForm (rounds_in quantity (words_after (option_copied rest.entry))) result }
-    ensures early { IfOk result IsEarly }
-    ensures bounded { IfErr result IsNear }
-{
-    let Some(text) = rest else {
-        return Err(in_window(quantity, 0, ExpectCause::Word));
-    };
-    let (kind, others) = first_word(text);
-    if kind == b"within".as_slice() {
-        within_in(quantity, others)
-    } else if kind == b"from".as_slice() {
-        between_in(quantity, others)
+    let pattern = window_pattern(how, line);
+    if is_pattern(pattern) {
+        counted_in(how, pattern, count_said(how, line), window)
     } else {
-        Err(in_window(quantity, 0, ExpectCause::Word))
-    }
-}
-
-// The number of a count; `at least 0` holds of every window, and is none.
-fn count_number(bound: Bound, word: &[u8]) -> Option<u64>
-    ensures { result ≡ count_number bound (exact_number word.now) }
-{
-    let number = exact_number(word)?;
-    match bound {
-        Bound::Exactly | Bound::AtMost => Some(number),
-        Bound::AtLeast => { if number == 0 { None } else { Some(number) } }
-    }
-}
-
-// The fault of a count that has no number, by that of the rounds after it: those of words and of the pattern come first.
-fn uncounted_by(bound: Bound, fault: AtWord<ExpectCause>) -> AtWord<ExpectCause>
-    requires near { IsNear fault }
-    ensures value { result ≡ uncounted_by bound fault fault.cause }
-    ensures bounded { IsNear result }
-{
-    match fault.cause {
-        ExpectCause::Word | ExpectCause::Pattern => fault,
-        ExpectCause::Number
-        | ExpectCause::Name
-        | ExpectCause::Label
-        | ExpectCause::Order
-        | ExpectCause::Unmet => at_word(number_word(bound), ExpectCause::Number),
-    }
-}
-
-fn uncounted(bound: Bound, rest: Option<&[u8]>) -> AtWord<ExpectCause>
-    ensures value { result ≡ uncounted bound (rounds_in (Counted bound 0) (words_after (option_copied rest.entry))) }
-    ensures bounded { IsNear result }
-{
-    match rounds_in(Quantity::Counted { bound, number: 0 }, rest) {
-        Ok(_) => at_word(number_word(bound), ExpectCause::Number),
-        Err(fault) => uncounted_by(bound, fault),
-    }
-}
-
-fn counted_by<'a>(
-    bound: Bound,
-    number: Option<u64>,
-    rest: Option<&'a [u8]>,
-) -> Result<ExpectLine<'a>, AtWord<ExpectCause>>
-    ensures form { IsForm (counted_by bound number (words_after (option_copied rest.entry))) result }
-    ensures early { IfOk result IsEarly }
-    ensures bounded { IfErr result IsNear }
-{
-    match number {
-        None => Err(uncounted(bound, rest)),
-        Some(number) => rounds_in(Quantity::Counted { bound, number }, rest),
-    }
-}
-
-// What stands after the words of a count: its number, and rounds.
-fn counted_in<'a>(
-    bound: Bound,
-    rest: Option<&'a [u8]>,
-) -> Result<ExpectLine<'a>, AtWord<ExpectCause>>
-    ensures form { IsForm (counted_in bound (words_after (option_copied rest.entry))) result }
-    ensures early { IfOk result IsEarly }
-    ensures bounded { IfErr result IsNear }
-{
-    let Some(text) = rest else {
-        return Err(at_word(number_word(bound), ExpectCause::Word));
-    };
-    let (number, others) = first_word(text);
-    counted_by(bound, count_number(bound, number), others)
-}
-
-// What stands after `at`.
-fn bounded_in<'a>(rest: Option<&'a [u8]>) -> Result<ExpectLine<'a>, AtWord<ExpectCause>>
-    ensures form { IsForm (bounded_in (words_after (option_copied rest.entry))) result }
-    ensures early { IfOk result IsEarly }
-    ensures bounded { IfErr result IsNear }
-{
-    let Some(text) = rest else {
-        return Err(at_word(2, ExpectCause::Word));
-    };
-    let (word, others) = first_word(text);
-    if word == b"most".as_slice() {
-        counted_in(Bound::AtMost, others)
-    } else if word == b"least".as_slice() {
-        counted_in(Bound::AtLeast, others)
-    } else {
-        Err(at_word(2, ExpectCause::Word))
+        Err(in_form(how, 4, ExpectCause::Pattern))
     }
 }
 
@@ -501,7 +407,7 @@ fn lacking(text: &[u8]) -> Option<usize>
 
 // The number of a word of a state that is empty, or missing.
 fn bad_word(text: &[u8]) -> Option<usize>
-    ensures value { result ≡ or_lacking (empty_from 4 (words_of text.now)) (lacking (words_of text.now)) }
+    ensures value { result ≡ bad_word (words_of text.now) }
     ensures bounded { IfSome result (λ number. number + 2 < 2 ^ 64) }
 {
     match first_empty(text) {
@@ -510,79 +416,46 @@ fn bad_word(text: &[u8]) -> Option<usize>
     }
 }
 
-fn state_at_time<'a>(
-    time: &[u8],
+fn state_by<'a>(
+    bad: Option<usize>,
+    time: Option<u64>,
     device: &'a [u8],
     words: &'a [u8],
 ) -> Result<ExpectLine<'a>, AtWord<ExpectCause>>
-    ensures form { IsForm (state_at_time (number_of time.now) device.now (words_of words.now)) result }
+    requires near { IfSome bad (λ number. number + 2 < 2 ^ 64) }
+    requires early { IfSome time (λ t. t ≤ latest_event) }
+    ensures form { IsForm (state_by bad time device.now (words_of words.now)) result }
     ensures early { IfOk result IsEarly }
     ensures bounded { IfErr result IsNear }
 {
-    match number_in(time) {
+    if let Some(number) = bad {
+        return Err(at_word(number, ExpectCause::Word));
+    }
+    match time {
         None => Err(at_word(2, ExpectCause::Number)),
-        Some(time) => {
-            if time > LATEST_EVENT {
-                Err(at_word(2, ExpectCause::Number))
-            } else {
-                Ok(ExpectLine::State {
-                    time,
-                    device,
-                    words,
-                })
-            }
-        }
-    }
-}
-
-fn state_in<'a>(rest: Option<&'a [u8]>) -> Result<ExpectLine<'a>, AtWord<ExpectCause>>
-    ensures form { IsForm (state_in (words_after (option_copied rest.entry))) result }
-    ensures early { IfOk result IsEarly }
-    ensures bounded { IfErr result IsNear }
-{
-    let Some(text) = rest else {
-        return Err(at_word(2, ExpectCause::Word));
-    };
-    let (time, rest) = first_word(text);
-    let Some(text) = rest else {
-        return Err(at_word(3, ExpectCause::Word));
-    };
-    let (device, rest) = first_word(text);
-    let Some(words) = rest else {
-        return Err(at_word(4, ExpectCause::Word));
-    };
-    let (_word, _words) = first_word(words);
-    match bad_word(words) {
-        Some(number) => Err(at_word(number, ExpectCause::Word)),
-        None => state_at_time(time, device, words),
-    }
-}
-
-fn refused_in<'a>(rest: Option<&'a [u8]>) -> Result<ExpectLine<'a>, AtWord<ExpectCause>>
-    ensures form { IsForm (refused_in (words_after (option_copied rest.entry))) result }
-    ensures early { IfOk result IsEarly }
-    ensures bounded { IfErr result IsNear }
-{
-    let Some(text) = rest else {
-        return Err(at_word(2, ExpectCause::Word));
-    };
-    let (first, rest) = first_word(text);
-    let Some(text) = rest else {
-        return Ok(ExpectLine::Refused {
-            label: None,
-            word: first,
-        });
-    };
-    let (word, rest) = first_word(text);
-    match rest {
-        None => Ok(ExpectLine::Refused {
-            label: Some(first),
-            word,
+        Some(time) => Ok(ExpectLine::State {
+            time,
+            device,
+            words,
         }),
-        Some(text) => {
-            let (_word, _words) = first_word(text);
-            Err(at_word(4, ExpectCause::Word))
-        }
+    }
+}
+
+fn state_time(line: &FormLine<'_, ExpectVerb>) -> Option<u64>
+    ensures value { result ≡ late_time_at (values_of line.now) 2 }
+    ensures early { IfSome result (λ t. t ≤ latest_event) }
+{
+    line.late_time(2)
+}
+
+fn state_said<'t>(line: &FormLine<'t, ExpectVerb>) -> Result<ExpectLine<'t>, AtWord<ExpectCause>>
+    ensures form { IsForm (expectation_said State (values_of line.now)) result }
+    ensures early { IfOk result IsEarly }
+    ensures bounded { IfErr result IsNear }
+{
+    match line.rest(4) {
+        None => Err(at_word(4, ExpectCause::Word)),
+        Some(words) => state_by(bad_word(words), state_time(line), line.text(3), words),
     }
 }
 
@@ -600,42 +473,47 @@ fn unremarked_by<'a>(pattern: &'a [u8]) -> Result<ExpectLine<'a>, AtWord<ExpectC
     }
 }
 
-fn unremarked_in<'a>(rest: Option<&'a [u8]>) -> Result<ExpectLine<'a>, AtWord<ExpectCause>>
-    ensures form { IsForm (unremarked_in (words_after (option_copied rest.entry))) result }
+// What the values of a form say.
+fn expectation_said<'t>(
+    line: &FormLine<'t, ExpectVerb>,
+) -> Result<ExpectLine<'t>, AtWord<ExpectCause>>
+    ensures form { IsForm (expectation_said line.now.verb (values_of line.now)) result }
     ensures early { IfOk result IsEarly }
     ensures bounded { IfErr result IsNear }
 {
-    match rest {
-        None => Ok(ExpectLine::Unremarked { pattern: None }),
-        Some(pattern) => unremarked_by(pattern),
+    match line.verb {
+        ExpectVerb::Within(how) => rounds_in(how, line, within_said(how, line)),
+        ExpectVerb::From(how) => rounds_in(how, line, between_said(how, line)),
+        ExpectVerb::State => state_said(line),
+        ExpectVerb::Refused => Ok(ExpectLine::Refused {
+            label: Some(line.text(2)),
+            word: line.text(3),
+        }),
+        ExpectVerb::RefusedAbove => Ok(ExpectLine::Refused {
+            label: None,
+            word: line.text(2),
+        }),
+        ExpectVerb::NoRemark => Ok(ExpectLine::Unremarked { pattern: None }),
+        ExpectVerb::NoRemarkOf => unremarked_by(text_from(line, 2)),
     }
 }
 
-fn expectation_in<'a>(rest: Option<&'a [u8]>) -> Result<ExpectLine<'a>, AtWord<ExpectCause>>
-    ensures form { IsForm (expectation_in (words_after (option_copied rest.entry))) result }
+// The form of a line, and its values.
+fn expect_said(line: &[u8]) -> Result<FormLine<'_, ExpectVerb>, AtWord<LineCause>>
+    ensures form { said result ≡ expect_said (words_of line.now) }
+    ensures bounded { IfErr result (λ fault. fault.word ≤ 9) }
+{
+    read_line(EXPECT, line)
+}
+
+fn expectation_in<'a>(text: &'a [u8]) -> Result<ExpectLine<'a>, AtWord<ExpectCause>>
+    ensures form { IsForm (expectation_in (words_of text.now)) result }
     ensures early { IfOk result IsEarly }
     ensures bounded { IfErr result IsNear }
 {
-    let Some(text) = rest else {
-        return Err(at_word(1, ExpectCause::Word));
-    };
-    let (how, others) = first_word(text);
-    if how == b"refused".as_slice() {
-        refused_in(others)
-    } else if how == b"state".as_slice() {
-        state_in(others)
-    } else if how == b"no-remark".as_slice() {
-        unremarked_in(others)
-    } else if how == b"none".as_slice() {
-        rounds_in(Quantity::Never, others)
-    } else if how == b"once".as_slice() {
-        rounds_in(Quantity::Once, others)
-    } else if how == b"exactly".as_slice() {
-        counted_in(Bound::Exactly, others)
-    } else if how == b"at".as_slice() {
-        bounded_in(others)
-    } else {
-        rounds_in(Quantity::AtLeastOnce, Some(text))
+    match expect_said(text) {
+        Ok(line) => expectation_said(&line),
+        Err(fault) => Err(at_word(fault.word, ExpectCause::Word)),
     }
 }
 
@@ -652,9 +530,9 @@ pub fn form_in<'a>(rest: Option<&'a [u8]>) -> Result<ExpectLine<'a>, AtWord<Expe
     let Some(text) = rest else {
         return Err(at_word(0, ExpectCause::Word));
     };
-    let (verb, others) = first_word(text);
-    if verb == b"expect".as_slice() {
-        expectation_in(others)
+    let (_verb, _others) = first_word(text);
+    if has_verb(b"expect", rest) {
+        expectation_in(text)
     } else {
         Ok(ExpectLine::Other)
     }

@@ -2,7 +2,7 @@
 use arrayvec::ArrayVec;
 use device_features::KeyWord;
 use explain_lists::Draft;
-use room_lines::{SCRIPT, SESSION, STEPS, TOPOLOGY};
+use room_lines::{EXPECT, ExpectVerb, How, SCRIPT, SESSION, STEPS, TOPOLOGY};
 use text_core::Kind;
 use text_forms::Slot;
 
@@ -20,6 +20,19 @@ pub struct Form {
     tail: &'static str,
 }
 
+/// What an expectation speaks of.
+#[derive(Clone, Copy, PartialEq, Eq)]
+pub enum Expected {
+    /// Rounds, at least one of them.
+    Rounds,
+    /// No round, or a number of them.
+    Counts,
+    /// What a run has and a capture has not: states of devices, and events that are refused.
+    OfRuns,
+    /// Remarks of an audit.
+    Remarks,
+}
+
 /// Lines of one kind: those of a table, or those of some texts.
 #[derive(Clone, Copy)]
 pub enum Lines {
@@ -27,6 +40,7 @@ pub enum Lines {
     Script,
     Session,
     Steps,
+    Expect(Expected),
     Texts(&'static [&'static str]),
 }
 
@@ -116,6 +130,26 @@ fn add_rows<V>(forms: &mut Forms, rows: &[(V, Row)]) {
     }
 }
 
+fn expected_by(verb: ExpectVerb) -> Expected {
+    match verb {
+        ExpectVerb::Within(How::AtLeastOnce) | ExpectVerb::From(How::AtLeastOnce) => {
+            Expected::Rounds
+        }
+        ExpectVerb::Within(_) | ExpectVerb::From(_) => Expected::Counts,
+        ExpectVerb::State | ExpectVerb::Refused | ExpectVerb::RefusedAbove => Expected::OfRuns,
+        ExpectVerb::NoRemark | ExpectVerb::NoRemarkOf => Expected::Remarks,
+    }
+}
+
+// Adds the forms of the expectations that speak of this.
+fn add_expected(forms: &mut Forms, expected: Expected) {
+    for row in EXPECT {
+        if expected_by(row.0) == expected {
+            add_row(forms, row.1);
+        }
+    }
+}
+
 fn add_texts(forms: &mut Forms, texts: &[&'static str]) {
     for text in texts {
         let tail = *text;
@@ -132,6 +166,7 @@ pub fn forms_in(lines: &[Lines]) -> ArrayVec<Form, MOST_FORMS> {
             Lines::Script => add_rows(&mut forms, SCRIPT),
             Lines::Session => add_rows(&mut forms, SESSION),
             Lines::Steps => add_rows(&mut forms, STEPS),
+            Lines::Expect(expected) => add_expected(&mut forms, expected),
             Lines::Texts(texts) => add_texts(&mut forms, texts),
         }
     }

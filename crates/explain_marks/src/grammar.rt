@@ -1,5 +1,5 @@
-//! The lines that each input has. Those of topologies, scripts, sessions and steps are the rows of their tables.
-use crate::form::Lines;
+//! The lines that each input has. Those of topologies, scripts, sessions, steps and expectations are the rows of their tables.
+use crate::form::{Expected, Lines};
 use room_lines::SCRIPT as SCRIPT_ROWS;
 use text_forms::Slot;
 
@@ -8,35 +8,6 @@ const PARTING: &[&str] = &["script"];
 
 // A label before a line.
 const LABEL: &[&str] = &["label NAME LINE"];
-
-// The expectations of rounds: at least one of them.
-const OF_ROUNDS: &[&str] = &[
-    "expect within D of NAME PATTERN",
-    "expect from T to U PATTERN",
-];
-
-// No such round, exactly one, or a number of them.
-const OF_COUNTS: &[&str] = &[
-    "expect none within D of NAME PATTERN",
-    "expect none from T to U PATTERN",
-    "expect once within D of NAME PATTERN",
-    "expect once from T to U PATTERN",
-    "expect exactly N within D of NAME PATTERN",
-    "expect exactly N from T to U PATTERN",
-    "expect at most N within D of NAME PATTERN",
-    "expect at most N from T to U PATTERN",
-    "expect at least N within D of NAME PATTERN",
-    "expect at least N from T to U PATTERN",
-];
-
-// What the script of a test has besides these.
-const BESIDE_ROUNDS: &[&str] = &[
-    "expect state T NAME WORD",
-    "expect refused NAME WORD",
-    "expect refused WORD",
-    "expect no-remark",
-    "expect no-remark PATTERN",
-];
 
 /// The words with which events are refused.
 pub const REFUSALS: &[&str] = &[
@@ -72,13 +43,8 @@ pub const REMARKS: &[&str] = &[
     "operands",
 ];
 
-// What expectations of a capture have besides them: no event is refused there, and there are no devices whose states it has.
-const BESIDE_READINGS: &[&str] = &[
-    "expect no-remark",
-    "expect no-remark PATTERN",
-    "expect remark PATTERN",
-    "label NAME at T",
-];
+// What expectations of a capture have alone. No event is refused there, and there are no devices whose states it has.
+const OF_CAPTURES: &[&str] = &["expect remark PATTERN", "label NAME at T"];
 
 // The lines of frames to lay.
 const OF_LAID: &[&str] = &[
@@ -110,23 +76,26 @@ pub const NETWORK: &[Lines] = &[Lines::Topology, Lines::Texts(PARTING), Lines::S
 pub const TEST: &[Lines] = &[
     Lines::Script,
     Lines::Texts(LABEL),
-    Lines::Texts(OF_ROUNDS),
-    Lines::Texts(BESIDE_ROUNDS),
+    Lines::Expect(Expected::Rounds),
+    Lines::Expect(Expected::OfRuns),
+    Lines::Expect(Expected::Remarks),
 ];
 
 /// The lines of expectations, and the line of a label.
 pub const EXPECTATIONS: &[Lines] = &[
-    Lines::Texts(OF_ROUNDS),
-    Lines::Texts(OF_COUNTS),
-    Lines::Texts(BESIDE_ROUNDS),
+    Lines::Expect(Expected::Rounds),
+    Lines::Expect(Expected::Counts),
+    Lines::Expect(Expected::OfRuns),
+    Lines::Expect(Expected::Remarks),
     Lines::Texts(LABEL),
 ];
 
 /// The lines of the expectations of a capture.
 pub const CAPTURE_EXPECTATIONS: &[Lines] = &[
-    Lines::Texts(OF_ROUNDS),
-    Lines::Texts(OF_COUNTS),
-    Lines::Texts(BESIDE_READINGS),
+    Lines::Expect(Expected::Rounds),
+    Lines::Expect(Expected::Counts),
+    Lines::Expect(Expected::Remarks),
+    Lines::Texts(OF_CAPTURES),
     Lines::Texts(LABEL),
 ];
 

@@ -3,7 +3,8 @@
 use crate::cases::case_holds;
 use device_features::KeyWord;
 use room_lines::{
-    SCRIPT, SESSION, STEPS, ScriptVerb, SessionVerb, StepVerb, TOPOLOGY, TopologyVerb,
+    EXPECT, ExpectVerb, How, SCRIPT, SESSION, STEPS, ScriptVerb, SessionVerb, StepVerb, TOPOLOGY,
+    TopologyVerb,
 };
 use std::process::Abort;
 use text_core::{AtWord, Kind};
@@ -384,4 +385,90 @@ fn steps_have_their_forms(rt: HostRuntime) {
     };
     assert!(rt; opcode.byte(2) == 0x8a);
     assert!(rt; opcode.byte(1) == 0);
+}
+
+/// Lines of expectations, and what each stands for. What a pattern and the numbers of a count and of a window are, the reader of
+/// expectations tells.
+const EXPECTED: &[(&str, ExpectVerb)] = &[
+    (
+        "expect within 5 of film 4>f active-source",
+        ExpectVerb::Within(How::AtLeastOnce),
+    ),
+    (
+        "expect from 0 to 5 short",
+        ExpectVerb::From(How::AtLeastOnce),
+    ),
+    ("expect from x to y ", ExpectVerb::From(How::AtLeastOnce)),
+    (
+        "expect none within 5 of film short",
+        ExpectVerb::Within(How::Never),
+    ),
+    ("expect once from 0 to 5 short", ExpectVerb::From(How::Once)),
+    (
+        "expect exactly 2 within 5 of film short",
+        ExpectVerb::Within(How::Exactly),
+    ),
+    (
+        "expect at most x from 0 to 5 short",
+        ExpectVerb::From(How::AtMost),
+    ),
+    (
+        "expect at least 0 within 5 of film short",
+        ExpectVerb::Within(How::AtLeast),
+    ),
+    ("expect state 5 tv on", ExpectVerb::State),
+    ("expect state x tv not", ExpectVerb::State),
+    ("expect refused slip off-wire", ExpectVerb::Refused),
+    ("expect refused off-wire", ExpectVerb::RefusedAbove),
+    ("expect no-remark", ExpectVerb::NoRemark),
+    ("expect no-remark ", ExpectVerb::NoRemarkOf),
+    ("expect no-remark bit-low slot 1", ExpectVerb::NoRemarkOf),
+];
+
+/// Lines that have no form of an expectation, and the word at fault.
+const UNEXPECTED: &[(&str, usize)] = &[
+    ("", 0),
+    ("expects", 0),
+    ("expect", 1),
+    ("expect often from 0 to 5 short", 1),
+    ("expect remark free", 1),
+    ("expect none", 2),
+    ("expect none 5", 2),
+    ("expect exactly", 2),
+    ("expect exactly 2", 3),
+    ("expect exactly within 5 of film short", 3),
+    ("expect at", 2),
+    ("expect at all from 0 to 5 short", 2),
+    ("expect at most", 3),
+    ("expect at least 2", 4),
+    ("expect at least 2 until 5", 4),
+    ("expect within", 2),
+    ("expect within 5", 3),
+    ("expect within 5 to film short", 3),
+    ("expect within 5 of", 4),
+    ("expect within 5 of film", 5),
+    ("expect at most 2 from 0 to 5", 8),
+    ("expect state", 2),
+    ("expect state 5", 3),
+    ("expect state 5 tv", 4),
+    ("expect refused", 2),
+    ("expect refused slip off-wire now", 4),
+];
+
+#[test]
+fn expectations_have_their_forms(rt: HostRuntime) {
+    for (line, verb) in EXPECTED {
+        let is_so = match read_line(EXPECT, line.as_bytes()) {
+            Ok(found) => found.verb == *verb,
+            Err(_) => false,
+        };
+        case_holds(&rt, is_so, line);
+    }
+    for (line, word) in UNEXPECTED {
+        let is_so = match read_line(EXPECT, line.as_bytes()) {
+            Ok(_) => false,
+            Err(fault) => fault.cause == LineCause::Word && fault.word == *word,
+        };
+        case_holds(&rt, is_so, line);
+    }
 }
