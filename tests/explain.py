@@ -145,6 +145,8 @@ def test_flags(tests, text, name):
             right = answer.status != 2
         elif name == "meant.flags":
             right = refused and answer.err.splitlines()[-1] == rest[0]
+        elif name == "unknown.flags":
+            right = refused and rest[0] in answer.err.splitlines()
         elif name == "values.flags":
             right = refused and answer.err == VALUE % (HELP, rest[0].replace("|", "\n"))
         elif name == "rules.flags":

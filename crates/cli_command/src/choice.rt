@@ -63,6 +63,43 @@ fn with_values<'a>(
     Ok(command)
 }
 
+/// Flags of a subcommand, by their names and helps, and those that take a value, with what stands for it.
+type Flags = (
+    &'static [(&'static str, &'static str)],
+    &'static [(&'static str, &'static str, &'static str)],
+);
+
+// The flags of a subcommand, where a word is one.
+fn flags_of(word: &str) -> Option<Flags> {
+    match word {
+        "run" => Some((help::RUN_FLAGS, help::RUN_VALUES)),
+        "check" => Some((help::CHECK_FLAGS, help::CHECK_VALUES)),
+        "step" => Some((help::STEP_FLAGS, &[])),
+        "live" => Some((help::LIVE_FLAGS, &[])),
+        "asm" => Some((&[], &[])),
+        "dis" => Some((frames_help::DIS_FLAGS, &[])),
+        "lay" => Some((frames_help::LAY_FLAGS, &[])),
+        "mon" => Some((help::MON_FLAGS, help::MON_VALUES)),
+        "edid" => Some((edid_help::EDID_FLAGS, edid_help::EDID_VALUES)),
+        _ => None,
+    }
+}
+
+// Adds the flags of a subcommand.
+fn with_own<'a>(
+    alloc: Global,
+    command: Command<'a>,
+    word: &str,
+) -> Result<Command<'a>, AllocError> {
+    match flags_of(word) {
+        Some((flags, values)) => {
+            let command = with_flags(alloc, command, flags)?;
+            with_values(alloc, command, values)
+        }
+        None => Ok(command),
+    }
+}
+
 // A file, or standard input.
 fn operand<'a>(alloc: Global, name: &'a str, value: &'a str, help: &'a str) -> Arg<'a> {
     Arg::new(alloc, name).value_name(value).help(help)
@@ -159,8 +196,7 @@ fn add_run<'a>(
     helps: Helps<'a>,
 ) -> Result<Command<'a>, AllocError> {
     let run = plain_command(alloc, "run", help::RUN_ABOUT, helps.below(helps.run));
-    let run = with_flags(alloc, run, help::RUN_FLAGS)?;
-    let run = with_values(alloc, run, help::RUN_VALUES)?;
+    let run = with_own(alloc, run, "run")?;
     program.subcommand(run.arg(one_file(alloc))?)
 }
 
@@ -176,8 +212,7 @@ fn add_check<'a>(
         help::CHECK_ABOUT,
         helps.below(help::CHECK_HELP),
     );
-    let check = with_flags(alloc, check, help::CHECK_FLAGS)?;
-    let check = with_values(alloc, check, help::CHECK_VALUES)?;
+    let check = with_own(alloc, check, "check")?;
     let files = operand(alloc, "file", "FILE", help::FILES).action(ArgAction::Append);
     program.subcommand(check.arg(files.num_args(1..))?)
 }
@@ -194,7 +229,7 @@ fn add_step<'a>(
         help::STEP_ABOUT,
         helps.below(help::STEP_HELP),
     );
-    let step = with_flags(alloc, step, help::STEP_FLAGS)?;
+    let step = with_own(alloc, step, "step")?;
     program.subcommand(step.arg(one_file(alloc))?)
 }
 
@@ -210,7 +245,7 @@ fn add_live<'a>(
         help::LIVE_ABOUT,
         helps.below(help::LIVE_HELP),
     );
-    let live = with_flags(alloc, live, help::LIVE_FLAGS)?;
+    let live = with_own(alloc, live, "live")?;
     program.subcommand(live)
 }
 
@@ -236,7 +271,7 @@ fn add_dis<'a>(
         frames_help::DIS_ABOUT,
         helps.below(frames_help::DIS_HELP),
     );
-    let dis = with_flags(alloc, dis, frames_help::DIS_FLAGS)?;
+    let dis = with_own(alloc, dis, "dis")?;
     program.subcommand(dis.arg(one_file(alloc))?)
 }
 
@@ -252,7 +287,7 @@ fn add_lay<'a>(
         frames_help::LAY_ABOUT,
         helps.below(frames_help::LAY_HELP),
     );
-    let lay = with_flags(alloc, lay, frames_help::LAY_FLAGS)?;
+    let lay = with_own(alloc, lay, "lay")?;
     program.subcommand(lay.arg(one_file(alloc))?)
 }
 
@@ -263,8 +298,7 @@ fn add_mon<'a>(
     helps: Helps<'a>,
 ) -> Result<Command<'a>, AllocError> {
     let mon = plain_command(alloc, "mon", help::MON_ABOUT, helps.below(help::MON_HELP));
-    let mon = with_flags(alloc, mon, help::MON_FLAGS)?;
-    let mon = with_values(alloc, mon, help::MON_VALUES)?;
+    let mon = with_own(alloc, mon, "mon")?;
     let mon = mon.arg(one_file(alloc))?;
     let other = operand(alloc, "other", "OTHER", help::OTHER);
     program.subcommand(mon.arg(other)?)
@@ -282,8 +316,7 @@ fn add_edid<'a>(
         edid_help::EDID_ABOUT,
         helps.below(edid_help::EDID_HELP),
     );
-    let edid = with_flags(alloc, edid, edid_help::EDID_FLAGS)?;
-    let edid = with_values(alloc, edid, edid_help::EDID_VALUES)?;
+    let edid = with_own(alloc, edid, "edid")?;
     let edid = edid.arg(one_file(alloc))?;
     let receiver = operand(alloc, "receiver", "RECEIVER", help::RECEIVER);
     program.subcommand(edid.arg(receiver)?)
@@ -336,6 +369,33 @@ fn explanation(words: &[String]) -> &'static str {
     }
 }
 
+// Adds the flags of a subcommand, which takes no others.
+fn add_flags(draft: &mut Draft, word: &str, flags: Flags) {
+    let (plain, valued) = flags;
+    draft.add_all(&["  the flags of `", word, "` are --explain"]);
+    for flag in plain {
+        draft.add_all(&[", --", flag.0]);
+    }
+    for flag in valued {
+        draft.add_all(&[", --", flag.0, " ", flag.1]);
+    }
+    draft.add("\n");
+}
+
+// The flags of the subcommand among words of which one is no flag, where explanations are asked for.
+fn flags_said(alloc: Global, error: &str, words: &[String]) -> Result<String, AllocError> {
+    let mut draft = Draft::new(alloc);
+    if error.starts_with("error: unexpected argument") && asks_explanation(words) {
+        for word in words.iter().skip(1) {
+            if let Some(flags) = flags_of(word.as_str()) {
+                add_flags(&mut draft, word.as_str(), flags);
+                return draft.finish();
+            }
+        }
+    }
+    draft.finish()
+}
+
 // The word that an error quotes after a text.
 fn quoted_after<'a>(error: &'a str, before: &str) -> Option<&'a str> {
     let (word, _) = error.strip_prefix(before)?.split_once("'")?;
@@ -382,6 +442,8 @@ fn said(
         text.push_str(value.as_str())?;
         let meant = meant(text.as_str());
         text.push_str(meant)?;
+        let flags = flags_said(alloc, text.as_str(), words)?;
+        text.push_str(flags.as_str())?;
         text.push_str(explanation(words))?;
         return Ok(Refused::Words(text));
     }

@@ -12,4 +12,4 @@ mod spot;
 mod taken;
 
 pub use spot::Spot;
-pub use taken::{is_taken, is_taken_as_range};
+pub use taken::{is_taken, is_taken_as_range, is_whole_line_read};

@@ -115,7 +115,7 @@ pub fn is_whole_read(alloc: Global, changed: Changed<'_>) -> Result<bool, AllocE
 fn wrong_value(topology: &Topology, line: &str) -> Option<usize> {
     let (number, is_right) = match (word_at(line, 0), word_at(line, 1), word_at(line, 2)) {
         (Some("run"), _, Some(time)) => (2usize, time_in(time.as_bytes()).is_some()),
-        (Some("edge"), Some(time), _) => (1, time_in(time.as_bytes()).is_some()),
+        (Some("edge" | "wait"), Some(time), _) => (1, time_in(time.as_bytes()).is_some()),
         (Some("show"), Some(name), _) => (1, topology.tree.device_named(name.as_bytes()).is_some()),
         _ => (0, true),
     };

@@ -58,27 +58,50 @@ fn last_word(spot: Spot<'_>, text: &str) -> usize {
     first.saturating_add(word_count(text.trim_ascii_end()).saturating_sub(1))
 }
 
-// Whether a line is read up to the end of a text in the place of words of it.
-fn is_read_so(alloc: Global, spot: Spot<'_>, words: &str, text: &str) -> Result<bool, AllocError> {
+/// How far a line is read with a text in the place of words of it.
+#[derive(Clone, Copy)]
+enum Reach {
+    /// It is refused before the end of the text.
+    Refused,
+    /// It is refused after the text, or lacks a word there.
+    PastText,
+    Whole,
+}
+
+fn reach_of(alloc: Global, spot: Spot<'_>, words: &str, text: &str) -> Result<Reach, AllocError> {
     let Some(line) = changed_line(alloc, spot, words, text)? else {
-        return Ok(false);
+        return Ok(Reach::Refused);
     };
-    match refused_word(alloc, spot.at, &line)? {
-        None => Ok(true),
-        Some(word) => Ok(word > last_word(spot, text)),
+    Ok(match refused_word(alloc, spot.at, &line)? {
+        None => Reach::Whole,
+        Some(word) if word > last_word(spot, text) => Reach::PastText,
+        Some(_) => Reach::Refused,
+    })
+}
+
+// The same; where memory runs out the draft has failed.
+fn reached(draft: &mut Draft, spot: Spot<'_>, words: &str, text: &str) -> Reach {
+    match reach_of(draft.alloc(), spot, words, text) {
+        Ok(reach) => reach,
+        Err(AllocError) => {
+            draft.fail();
+            Reach::Refused
+        }
     }
 }
 
 /// Whether a text is taken in the place of words of a line: the line is read again, and nothing of it is refused up to the text's
 /// end.
 pub fn is_taken(draft: &mut Draft, spot: Spot<'_>, words: &str, text: &str) -> bool {
-    match is_read_so(draft.alloc(), spot, words, text) {
-        Ok(is_read) => is_read,
-        Err(AllocError) => {
-            draft.fail();
-            false
-        }
-    }
+    matches!(
+        reached(draft, spot, words, text),
+        Reach::PastText | Reach::Whole
+    )
+}
+
+/// Whether a whole line is read with a text in the place of words of it.
+pub fn is_whole_line_read(draft: &mut Draft, spot: Spot<'_>, words: &str, text: &str) -> bool {
+    matches!(reached(draft, spot, words, text), Reach::Whole)
 }
 
 // ---- ranges

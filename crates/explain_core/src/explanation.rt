@@ -7,7 +7,7 @@ use crate::right::right;
 use edid_core::{EdidCause, EdidError};
 use edid_dump::{DumpError, looks_like_dump};
 use edid_text_lines::WORD_TEXTS;
-use explain_forms::{add_meant, add_right_forms, add_slip};
+use explain_forms::{add_meant, add_right_forms, add_slip, is_right_but_for_return};
 use explain_lists::{Draft, Gaps, span_of, word_at};
 use explain_marks::{
     FaultyLine, Input, InputFault, InputLine, Mark, Parting, WholeFault, WordSlip, gaps_of,
@@ -117,6 +117,9 @@ fn add_marked(draft: &mut Draft, at: FaultyLine<'_>) -> bool {
     let mark = marked(at.what, at.fault, at.text);
     add_shown(draft, at, gaps_of(at.fault), mark);
     add_hints(draft, of_line(at.place.line, at.text).as_slice());
+    if is_right_but_for_return(draft, at) {
+        return true;
+    }
     let slip = slip_of(at.fault, at.text);
     if let Some(found) = slip {
         add_slip(draft, found.slip);

@@ -5,49 +5,16 @@ use crate::patterns::add_pattern_meant;
 use crate::ranges::{add_range, add_window};
 use crate::wanted::add_nearest_of;
 use expect_text::ExpectCause;
-use explain_again::{Spot, is_taken};
+use explain_again::Spot;
 use explain_lists::{Draft, word_count};
 use explain_marks::{
-    InputLine, REFUSALS, REMARKS, forms_of, is_line_end, is_word, labelled_by, wanted_at,
-    window_start, without_label,
+    InputLine, REFUSALS, REMARKS, forms_of, is_line_end, is_word, labelled_by, window_start,
+    without_label,
 };
 use explain_near::{
     add_enclosed, add_near, add_nearest, add_number, add_other, add_suggestion, is_near,
 };
 use std::alloc::AllocError;
-
-/// Words of expectations that are written otherwise.
-const OTHER_EXPECTED: &[(&str, &str)] = &[
-    ("never", "none"),
-    ("no", "none"),
-    ("not", "none"),
-    ("zero", "none"),
-    ("exactly-one", "once"),
-    ("exactly-once", "once"),
-    ("just-one", "once"),
-    ("just-once", "once"),
-    ("only-once", "once"),
-    ("one", "once"),
-    ("single", "once"),
-    ("twice", "exactly 2"),
-    ("most", "at most"),
-    ("at-most", "at most"),
-    ("max", "at most"),
-    ("maximum", "at most"),
-    ("least", "at least"),
-    ("at-least", "at least"),
-    ("min", "at least"),
-    ("minimum", "at least"),
-    ("during", "within"),
-    ("between", "from"),
-    ("after", "of"),
-    ("since", "of"),
-    ("until", "to"),
-    ("and", "to"),
-];
-
-/// Words that are written for the number of a count.
-const COUNTS: &[(&str, &str)] = &[("once", "1"), ("one", "1"), ("twice", "2"), ("two", "2")];
 
 /// The keys of a state line, with the mark after each.
 const STATE_KEYS: &[&str] = &[
@@ -205,23 +172,6 @@ fn of_unmet(draft: &mut Draft, spot: Spot<'_>, word: &str) {
     }
 }
 
-// The word that is missing before one, where a line has it there and is then read on.
-fn add_wanted(draft: &mut Draft, spot: Spot<'_>) {
-    let own = without_label(spot.at.text);
-    let place = spot.word.saturating_sub(own.words);
-    let Some(wanted) = wanted_at(forms_of(spot.at.what), own.line, place) else {
-        return;
-    };
-    match format!(in draft.alloc(); "{wanted} ") {
-        Ok(text) => {
-            if is_taken(draft, spot, "", text.as_str()) {
-                draft.add_all(&["  `", wanted, "` is missing before this word\n"]);
-            }
-        }
-        Err(AllocError) => draft.fail(),
-    }
-}
-
 // `once`, where a word stands before it that says the same. Returns whether it does.
 fn add_once(draft: &mut Draft, spot: Spot<'_>, word: &str) -> bool {
     let words = match (word, spot.after(1).text()) {
@@ -249,23 +199,20 @@ fn of_count(draft: &mut Draft, spot: Spot<'_>, word: &str) {
             draft.add_line("`at least 0` is so of all rooms: N is 1 or more");
             true
         }
-        _ => add_other(draft, spot, COUNTS, word) || add_range(draft, spot, word, false),
+        _ => add_other(draft, spot, word) || add_range(draft, spot, word, false),
     };
     if !is_said {
         add_number(draft, spot, word);
     }
 }
 
-// What a word that may not stand there may have been meant for, or the word that is missing before it.
+// What a word that may not stand there may have been meant for.
 fn of_word(draft: &mut Draft, spot: Spot<'_>, word: &str) {
-    let is_said = spot.word == 0 && add_label(draft, spot, word)
+    let _ = spot.word == 0 && add_label(draft, spot, word)
         || add_window(draft, spot)
         || add_once(draft, spot, word)
         || add_nearest_of(draft, spot, forms_of(spot.at.what), word)
-        || add_other(draft, spot, OTHER_EXPECTED, word);
-    if !is_said {
-        add_wanted(draft, spot);
-    }
+        || add_other(draft, spot, word);
 }
 
 /// What a word of an expectation may have been meant for.

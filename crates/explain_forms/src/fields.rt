@@ -46,6 +46,10 @@ const FIELDS: &[(&str, &str)] = &[
         "hdmi",
         "PA is a physical address, as 1.0.0.0, and at most 26 bytes stand after it",
     ),
+    (
+        "tail",
+        "the bytes after the last block or timing, where one is no zero, two hex digits each; `-` where all are",
+    ),
 ];
 
 /// What the words of lines are, by the word that each begins with.

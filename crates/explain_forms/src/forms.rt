@@ -1,9 +1,11 @@
 //! What a line at fault would have to look like.
+use crate::captures::add_capture;
 use crate::fields::{fields_of, words_of};
 use crate::frames::add_frame;
+use crate::hexes::add_hex_meant;
 use crate::keys::{add_key, is_of_key};
 use crate::order::add_order;
-use crate::room::{add_field_count, add_lack_of_room, is_hex_alone};
+use crate::room::{add_field_count, add_lack_of_room, is_hex_alone, next_word};
 use expect_text::ExpectCause;
 use explain_again::Spot;
 use explain_lists::{Draft, word_at, word_count};
@@ -13,6 +15,7 @@ use explain_marks::{
     missing, most_fitting, plain, slip_of, without_label,
 };
 use message_lay::LayCause;
+use message_text::AssembleError;
 use room_script::{ScriptCause, TopologyCause};
 
 /// What the words of a state are.
@@ -47,8 +50,8 @@ fn add_forms(draft: &mut Draft, lines: &[Lines], line: &str) {
     add_missing(draft, missing(lines, line));
 }
 
-// The forms of a script's lines, which may have labels and expectations among them in a test.
-fn script_forms(what: Input) -> &'static [Lines] {
+/// The forms of a script's lines, which may have labels and expectations among them in a test.
+pub(crate) fn script_forms(what: Input) -> &'static [Lines] {
     match what {
         Input::Test => TEST,
         Input::Session => SESSION,
@@ -231,6 +234,9 @@ fn fields_in(what: Input, word: &str, line: &str) -> Option<&'static str> {
 fn add_laid(draft: &mut Draft, at: FaultyLine<'_>, cause: LayCause, word: usize) {
     match cause {
         LayCause::Frame(cause) => {
+            if most_fitting(LAID, at.text) > 1 && cause == AssembleError::Address && word > 1 {
+                add_forms(draft, LAID, at.text);
+            }
             let word = frame_start(cause, word);
             add_frame(draft, cause, Spot { at, word });
         }
@@ -244,18 +250,40 @@ fn is_past_room(draft: &mut Draft, place: InputLine<'_>, line: &str) -> bool {
     is_word(line, 0, "timing") && add_lack_of_room(draft, place)
 }
 
+// What the fields of a line are that begins with a word.
+fn add_fields_of(draft: &mut Draft, at: FaultyLine<'_>, word: &str) {
+    if let Some(fields) = fields_in(at.what, word, at.text) {
+        draft.add_line(fields);
+    }
+}
+
 // What the fields of a line of an EDID's text are, or that its extension has no room for it. Returns whether more would be of no
 // use.
 fn add_fields(draft: &mut Draft, at: FaultyLine<'_>) -> bool {
     if add_lack_of_room(draft, at.place) {
         return true;
     }
-    if let Some(word) = word_at(at.text, 0) {
-        if let Some(fields) = fields_in(at.what, word, at.text) {
-            draft.add_line(fields);
-        }
-    }
+    add_fields_of(draft, at, word_at(at.text, 0).unwrap_or(""));
     false
+}
+
+// What a line of an EDID's text would be that has another form. Returns whether more would be of no use.
+fn add_text_line(draft: &mut Draft, at: FaultyLine<'_>) -> bool {
+    if is_past_room(draft, at.place, at.text) {
+        return true;
+    }
+    if add_field_count(draft, at.text) {
+        add_fields_of(draft, at, word_at(at.text, 0).unwrap_or(""));
+        return true;
+    }
+    match next_word(at.place) {
+        Some(word) => {
+            draft.add_all(&["  here a line `", word, "` stands\n"]);
+            add_fields_of(draft, at, word);
+            true
+        }
+        None => false,
+    }
 }
 
 /// The forms that a line could have, or the line that it should not stand after. Returns whether what would be right in place
@@ -275,13 +303,11 @@ pub fn add_right_forms(draft: &mut Draft, at: FaultyLine<'_>) -> bool {
         InputFault::Frame { cause, .. } => add_frame(draft, cause, Spot { at, word: 0 }),
         InputFault::Lay { cause, word, .. } => add_laid(draft, at, cause, word),
         InputFault::TextField { .. } => return add_fields(draft, at),
-        InputFault::TextSyntax { .. } => {
-            return is_past_room(draft, at.place, line) || add_field_count(draft, line);
-        }
+        InputFault::TextSyntax { .. } => return add_text_line(draft, at),
+        InputFault::Hex { .. } => add_hex_meant(draft, line),
+        InputFault::Capture { form, cause, .. } => add_capture(draft, at, form, cause),
         InputFault::Past { .. }
         | InputFault::Range(_)
-        | InputFault::Hex { .. }
-        | InputFault::Capture { .. }
         | InputFault::Edid(_)
         | InputFault::NoPort
         | InputFault::NoParting(_)

@@ -1,132 +1,46 @@
 //! What the word at fault may have been meant for.
+use crate::captures::add_row_meant;
 use crate::expected::add_expected_meant;
 use crate::frames::add_frame_meant;
 use crate::keys::is_of_key;
 use crate::labels::add_label;
-use crate::names::{add_header_name_meant, add_name_meant, add_named_header};
+use crate::names::{add_header_name_meant, add_name_meant, add_named_header, add_sender};
 use crate::ranges::add_range;
+use crate::repairs::add_repaired;
 use crate::topology::add_topology_meant;
 use crate::wanted::add_nearest_of;
 use capture_forms::{CaptureForm, Cause};
 use device_features::KeyWord;
 use edid_text_lines::{LineContent, WORD_TEXTS, word_of};
-use explain_again::Spot;
-use explain_lists::{Draft, word_at};
+use expect_text::ExpectCause;
+use explain_again::{Spot, is_whole_line_read};
+use explain_lists::{Draft, Gaps, word_at};
 use explain_marks::{
     EXPECTATIONS, FaultyLine, Input, InputFault, LAID, NETWORK, SESSION, SESSION_ALONE, STEPS,
-    is_number, is_word, most_fitting,
+    gaps_of, is_event_word, is_number, is_script_verb, is_word, most_fitting,
 };
 use explain_near::{
-    add_code, add_exchanged, add_near, add_nearest, add_number, add_other, add_quotes,
-    add_set_meant, add_suggestion,
+    add_code, add_enclosed, add_exchanged, add_near, add_nearest, add_number, add_other,
+    add_quotes, add_respelled, add_set_meant, add_suggestion, add_unit, add_value, bare, is_near,
 };
 use message_lay::LayCause;
-use message_table::{WordSet, code_named};
+use message_table::{WordSet, name};
 use message_text::AssembleError;
-use room_script::ScriptCause;
+use room_script::{ScriptCause, TopologyCause};
 use std::alloc::AllocError;
+use text_core::At;
 
 /// The latest time of a capture, in microseconds.
 const LATEST_INSTANT: u64 = 2_000_000_000_000;
 
-/// Words that are written for the levels of a line.
-const LEVELS: &[(&str, &str)] = &[
-    ("low", "0"),
-    ("l", "0"),
-    ("fall", "0"),
-    ("high", "1"),
-    ("h", "1"),
-    ("rise", "1"),
-];
-
-/// The word of the end of a capture.
-const ENDS: &[(&str, &str)] = &[("end", "end")];
-
-/// Words that are written for no logical address.
-const NO_ADDRESS: &[&str] = &["none", "no", "nothing", "empty", "off"];
-
-/// Keys that are called otherwise elsewhere.
-const OTHER_KEYS: &[(&str, &str)] = &[
-    ("standby", "power"),
-    ("on", "power"),
-    ("off", "power"),
-    ("vol-up", "volume-up"),
-    ("vol-down", "volume-down"),
-    ("vol+", "volume-up"),
-    ("vol-", "volume-down"),
-    ("select", "watch"),
-    ("input", "port"),
-    ("open", "eject"),
-    ("insert", "load"),
-];
-
-/// Words with which lines of a script begin elsewhere.
-const OTHER_VERBS: &[(&str, &str)] = &[
-    ("finish", "end"),
-    ("stop", "end"),
-    ("quit", "end"),
-    ("exit", "end"),
-    ("assert", "expect"),
-    ("glitch", "pulse"),
-    ("low", "pull"),
-    ("drive", "pull"),
-    ("level", "pin"),
-    ("gpio", "pin"),
-];
-
-/// Words with which events begin elsewhere.
-const OTHER_EVENTS: &[(&str, &str)] = &[
-    ("push", "press"),
-    ("click", "press"),
-    ("key", "press"),
-    ("tap", "press"),
-    ("connect", "plug"),
-    ("attach", "plug"),
-    ("disconnect", "unplug"),
-    ("detach", "unplug"),
-    ("remove", "unplug"),
-    ("transmit", "send"),
-    ("tx", "send"),
-    ("say", "send"),
-    ("claim", "hold"),
-    ("free", "drop"),
-];
-
-/// The words that mute, audio and arc take.
-const SWITCHES: &[&str] = &["on", "off"];
-
-/// Words that are written for them.
-const OTHER_SWITCHES: &[(&str, &str)] = &[
-    ("yes", "on"),
-    ("true", "on"),
-    ("1", "on"),
-    ("no", "off"),
-    ("false", "off"),
-    ("0", "off"),
-];
-
 // The first word of a key that a word may have been meant for: one that is near, or one that is called so elsewhere.
 fn add_nearest_key(draft: &mut Draft, spot: Spot<'_>, word: &str) {
-    let is_said = match (word, spot.after(1).text()) {
-        ("volume", "up") => add_suggestion(draft, spot, "volume-up", "volume up"),
-        ("volume", "down") => add_suggestion(draft, spot, "volume-down", "volume down"),
-        _ => false,
-    };
-    if is_said {
-        return;
-    }
     for key in KeyWord::ALL {
         if add_near(draft, spot, key.text(), word) {
             return;
         }
     }
-    let _ = add_other(draft, spot, OTHER_KEYS, word);
-}
-
-// What stands for `on` or `off`.
-fn add_switch(draft: &mut Draft, spot: Spot<'_>, word: &str) {
-    let _ = add_nearest(draft, spot, SWITCHES, word)
-        || add_other(draft, spot, OTHER_SWITCHES, word);
+    let _ = add_other(draft, spot, word);
 }
 
 // What a word of a key may have been meant for, by the key's first word and its own number in the line.
@@ -136,7 +50,9 @@ fn of_key(draft: &mut Draft, spot: Spot<'_>, word: &str) {
         (Some("remote"), 6) => {
             let _ = add_set_meant(draft, spot, WordSet::UserControl, word);
         }
-        (Some("audio" | "arc"), 5) => add_switch(draft, spot, word),
+        (Some("audio" | "arc"), 5) => {
+            let _ = add_set_meant(draft, spot, WordSet::OnOff, word);
+        }
         _ => {}
     }
 }
@@ -160,9 +76,7 @@ fn add_pair(draft: &mut Draft, spot: Spot<'_>, word: &str) {
 
 // What the ADDRS of `hold` may have been meant for.
 fn of_addresses(draft: &mut Draft, spot: Spot<'_>, word: &str) {
-    if NO_ADDRESS.contains(&word) {
-        let _ = add_suggestion(draft, spot, "-", word);
-    } else if !add_exchanged(draft, spot.moved_to(3)) {
+    if !add_other(draft, spot, word) && !add_exchanged(draft, spot.moved_to(3)) {
         add_pair(draft, spot, word);
     }
 }
@@ -170,36 +84,46 @@ fn of_addresses(draft: &mut Draft, spot: Spot<'_>, word: &str) {
 // What a word with which a script's line or its event begins may have been meant for.
 fn add_nearest_verb(draft: &mut Draft, spot: Spot<'_>, word: &str) {
     let is_test = spot.at.what == Input::Test;
-    let others = if spot.word == 0 {
-        OTHER_VERBS
+    let lines = if spot.at.what == Input::Session {
+        SESSION
     } else {
-        OTHER_EVENTS
+        NETWORK
     };
-    let _ = add_nearest_of(draft, spot, NETWORK, word)
+    let _ = add_nearest_of(draft, spot, lines, word)
         || is_test && add_nearest_of(draft, spot, EXPECTATIONS, word)
-        || add_other(draft, spot, others, word);
+        || add_other(draft, spot, word);
+}
+
+// A time with which a line begins, where `at` is missing before it, or an event without both. Returns whether it is one.
+fn add_at(draft: &mut Draft, spot: Spot<'_>, word: &str) -> bool {
+    let time = bare(word).trim_start_matches(|c: char| c == '@');
+    if is_number(word, u64::MAX) {
+        draft.add_line("`at` is missing before T");
+        true
+    } else if is_number(time, u64::MAX) {
+        add_enclosed(draft, spot, "at ", time, "", word)
+    } else if is_event_word(word) {
+        draft.add_all(&["  `at T` is missing before `", word, "`\n"]);
+        true
+    } else {
+        false
+    }
 }
 
 // What a word may have been meant for with which no line of a script begins.
 fn of_script_verb(draft: &mut Draft, spot: Spot<'_>, word: &str) {
-    if is_number(word, u64::MAX) {
-        draft.add_line("`at` is missing before T");
+    let is_session = spot.at.what == Input::Session;
+    if add_at(draft, spot, word) {
+        // What is missing is said.
     } else if word == "script" {
         draft.add_line("a line `script` stands above already");
-    } else if most_fitting(SESSION_ALONE, spot.at.text) > 0 {
+    } else if !is_session && most_fitting(SESSION_ALONE, spot.at.text) > 0 {
         draft.add_all(&["  `", word, "` begins a line of `hdminet live` alone\n"]);
-    } else if word == "sleep" {
+    } else if !is_session && word == "sleep" {
         draft.add_line("nothing waits: each event has its time, `at T`");
     } else if !add_label(draft, spot, word) {
         add_nearest_verb(draft, spot, word);
     }
-}
-
-// What a word with which a session's line or its event begins may have been meant for.
-fn of_session_word(draft: &mut Draft, spot: Spot<'_>, word: &str) {
-    let _ = add_nearest_of(draft, spot, SESSION, word)
-        || spot.word == 0 && add_label(draft, spot, word)
-        || spot.word == 2 && add_other(draft, spot, OTHER_EVENTS, word);
 }
 
 // What a word that a script's line may not have there may have been meant for.
@@ -211,11 +135,17 @@ fn of_script_word(draft: &mut Draft, spot: Spot<'_>, word: &str) {
     if is_of_key(line, number) {
         return of_key(draft, spot, word);
     }
-    if spot.at.what == Input::Session {
-        of_session_word(draft, spot, word);
-    } else if number == 0 {
+    if number == 0 {
         of_script_verb(draft, spot, word);
-    } else if number == 2 {
+    } else if number == 2 && is_script_verb(word) {
+        draft.add_all(&[
+            "  `",
+            word,
+            "` stands first in its line: `",
+            word,
+            " T ..`\n",
+        ]);
+    } else if number == 2 || spot.at.what == Input::Session {
         add_nearest_verb(draft, spot, word);
     }
 }
@@ -223,7 +153,7 @@ fn of_script_word(draft: &mut Draft, spot: Spot<'_>, word: &str) {
 // What a number of a script may have been meant for: of a pin its level.
 fn of_script_number(draft: &mut Draft, spot: Spot<'_>, word: &str) {
     if spot.word == 2 && is_word(spot.at.text, 0, "pin") {
-        let _ = add_exchanged(draft, spot.moved_to(1)) || add_other(draft, spot, LEVELS, word);
+        let _ = add_exchanged(draft, spot.moved_to(1)) || add_other(draft, spot, word);
     } else if !add_range(draft, spot, word, spot.word == 1) {
         add_number(draft, spot, word);
     }
@@ -232,8 +162,11 @@ fn of_script_number(draft: &mut Draft, spot: Spot<'_>, word: &str) {
 // What a name of a script may have been meant for: a word, or one in the header of a frame.
 fn of_script_name(draft: &mut Draft, spot: Spot<'_>, word: &str) {
     let (line, number) = (spot.at.text, spot.word);
-    if number >= 4 && is_word(line, 2, "send") {
+    let is_send = is_word(line, 2, "send");
+    if number >= 4 && is_send {
         add_header_name_meant(draft, spot, word);
+    } else if is_send && add_sender(draft, spot, word) {
+        // Its sender stands before a header.
     } else if number != 3 || !is_word(line, 2, "hold") || !add_exchanged(draft, spot) {
         add_name_meant(draft, spot, word);
     }
@@ -241,7 +174,10 @@ fn of_script_name(draft: &mut Draft, spot: Spot<'_>, word: &str) {
 
 // What the frame of a script may have been meant for.
 fn of_script_frame(draft: &mut Draft, cause: AssembleError, spot: Spot<'_>) {
-    if cause != AssembleError::Address || !add_named_header(draft, spot, spot.text()) {
+    let word = spot.text();
+    let is_said = cause == AssembleError::Address
+        && (add_named_header(draft, spot, word) || add_other(draft, spot, word));
+    if !is_said {
         add_frame_meant(draft, cause, spot);
     }
 }
@@ -263,16 +199,27 @@ fn of_script(draft: &mut Draft, cause: ScriptCause, spot: Spot<'_>) {
     }
 }
 
-// The opcode that a word has been written for: by its name, after `0x`, or in capitals.
+// The digits of the opcode that has a name, or one that is near.
+fn add_code_named(draft: &mut Draft, spot: Spot<'_>, word: &str) {
+    for code in 0..=u8::MAX {
+        if let Some(name) = name(code) {
+            if (name == word || is_near(draft, name, word)) && add_code(draft, spot, code) {
+                return;
+            }
+        }
+    }
+}
+
+// The opcode that a word has been written for: by its name, after `0x` or before `h`, or in capitals.
 fn add_opcode(draft: &mut Draft, spot: Spot<'_>) {
     let word = spot.text();
     let digits = word.strip_prefix("0x").unwrap_or(word);
-    let code = match u8::from_str_radix(digits, 16) {
-        Ok(code) if digits.len() == 2 => Some(code),
-        _ => code_named(word.as_bytes()),
-    };
-    if let Some(code) = code {
-        let _ = add_code(draft, spot, code);
+    let digits = digits.strip_suffix("h").unwrap_or(digits);
+    match u8::from_str_radix(digits, 16) {
+        Ok(code) if digits.len() <= 2 => {
+            let _ = add_code(draft, spot, code);
+        }
+        _ => add_code_named(draft, spot, word),
     }
 }
 
@@ -284,7 +231,7 @@ fn of_step(draft: &mut Draft, spot: Spot<'_>) {
     } else if is_word(line, 0, "show") && number == 1 || is_word(line, 1, "device") && number == 2 {
         add_name_meant(draft, spot, word);
     } else {
-        let _ = add_nearest_of(draft, spot, STEPS, word);
+        let _ = add_nearest_of(draft, spot, STEPS, word) || add_other(draft, spot, word);
     }
 }
 
@@ -308,15 +255,15 @@ fn of_edge(draft: &mut Draft, spot: Spot<'_>) {
     if spot.word == 0 {
         return of_edge_time(draft, spot, word);
     }
-    let _ = add_exchanged(draft, spot.moved_to(0))
-        || add_other(draft, spot, LEVELS, word)
-        || add_other(draft, spot, ENDS, word);
+    let _ = add_exchanged(draft, spot.moved_to(0)) || add_other(draft, spot, word);
 }
 
 // What a word of a captured line may have been meant for.
 fn of_capture(draft: &mut Draft, form: CaptureForm, cause: Cause, spot: Spot<'_>) {
-    if form == CaptureForm::Edges && cause == Cause::Line {
-        of_edge(draft, spot);
+    match (form, cause) {
+        (CaptureForm::Edges, Cause::Line) => of_edge(draft, spot),
+        (CaptureForm::Csv, Cause::Word) => add_row_meant(draft, spot.at),
+        _ => {}
     }
 }
 
@@ -342,33 +289,52 @@ fn of_laid(draft: &mut Draft, cause: LayCause, spot: Spot<'_>) {
     }
 }
 
-// What a field of an EDID's text may have been meant for: a text in quotes.
-fn of_field(draft: &mut Draft, spot: Spot<'_>) {
-    let Some(keyword) = word_of(spot.moved_to(0).text().as_bytes()) else {
-        return;
-    };
-    if keyword.form() == LineContent::Quoted {
-        let text = spot.moved_to(1);
-        let _ = add_quotes(draft, text, text.tail());
+// What stands after the first word of a line of an EDID's text.
+fn content_of(spot: Spot<'_>) -> LineContent {
+    match word_of(spot.moved_to(0).text().as_bytes()) {
+        Some(keyword) => keyword.form(),
+        None => LineContent::Empty,
     }
 }
 
-/// What the word of this number in a line may have been meant for. The line is without the label that it has in a test.
-pub fn add_meant(draft: &mut Draft, at: FaultyLine<'_>, number: usize) {
-    let spot = Spot { at, word: number };
-    let Some(word) = word_at(at.text, number) else {
-        return;
-    };
-    match at.fault {
+// Whether a word of a line of an EDID's text is to be a decimal number. The last one of a timing is hex.
+fn is_decimal(spot: Spot<'_>) -> bool {
+    match content_of(spot) {
+        LineContent::One | LineContent::Two | LineContent::Eight | LineContent::Unused => true,
+        LineContent::Timing => spot.word < 14,
+        _ => false,
+    }
+}
+
+// What a field of an EDID's text may have been meant for: a text in quotes, or a number.
+fn of_field(draft: &mut Draft, spot: Spot<'_>) {
+    if content_of(spot) == LineContent::Quoted {
+        let text = spot.moved_to(1);
+        let _ = add_quotes(draft, text, text.tail());
+    } else if is_decimal(spot) && !is_number(spot.text(), u64::MAX) {
+        add_number(draft, spot, spot.text());
+    }
+}
+
+// What a line of an EDID's text may have been meant for that has another form.
+fn of_text_line(draft: &mut Draft, spot: Spot<'_>, word: &str) {
+    let text = spot.moved_to(1);
+    let _ = add_nearest(draft, spot, WORD_TEXTS, word)
+        || content_of(spot) == LineContent::Quoted && add_quotes(draft, text, text.tail())
+        || add_other(draft, spot, word);
+}
+
+// What the word at fault may have been meant for, by the fault of its line.
+fn add_known(draft: &mut Draft, spot: Spot<'_>) {
+    let word = spot.text();
+    match spot.at.fault {
         InputFault::Topology(fault) => add_topology_meant(draft, fault.cause, spot),
         InputFault::Script(fault) => of_script(draft, fault.cause, spot),
         InputFault::Expectation(fault) => add_expected_meant(draft, fault.cause, spot),
         InputFault::Steps { .. } => of_step(draft, spot),
         InputFault::Frame { cause, .. } => add_frame_meant(draft, cause, spot),
         InputFault::Lay { cause, .. } => of_laid(draft, cause, spot),
-        InputFault::TextSyntax { .. } => {
-            let _ = add_nearest(draft, spot, WORD_TEXTS, word);
-        }
+        InputFault::TextSyntax { .. } => of_text_line(draft, spot, word),
         InputFault::TextField { .. } => of_field(draft, spot),
         InputFault::Capture { form, cause, .. } => of_capture(draft, form, cause, spot),
         InputFault::Past { .. }
@@ -379,4 +345,66 @@ pub fn add_meant(draft: &mut Draft, at: FaultyLine<'_>, number: usize) {
         | InputFault::NoParting(_)
         | InputFault::Whole(_) => {}
     }
+}
+
+// Whether a word at fault is to be a number.
+fn is_of_number(spot: Spot<'_>) -> bool {
+    match spot.at.fault {
+        InputFault::Topology(fault) => fault.cause == TopologyCause::Number,
+        InputFault::Script(fault) => fault.cause == ScriptCause::Number,
+        InputFault::Expectation(fault) => fault.cause == ExpectCause::Number,
+        InputFault::Lay { cause, .. } => cause == LayCause::Number,
+        InputFault::Capture { .. } => true,
+        InputFault::TextField { .. } => is_decimal(spot),
+        _ => false,
+    }
+}
+
+// Whether the cause of a fault is none of a frame's opcode or of how many words it has.
+fn has_spelling(fault: InputFault) -> bool {
+    let cause = match fault {
+        InputFault::Frame { cause, .. } => cause,
+        InputFault::Lay {
+            cause: LayCause::Frame(cause),
+            ..
+        } => cause,
+        InputFault::Script(
+            At {
+                cause: ScriptCause::Frame(cause),
+                ..
+            },
+        ) => cause,
+        _ => return true,
+    };
+    !matches!(cause, AssembleError::Name | AssembleError::Count)
+}
+
+/// What the word of this number in a line may have been meant for, or else the line. The line is without the label that it has in a
+/// test.
+pub fn add_meant(draft: &mut Draft, at: FaultyLine<'_>, number: usize) {
+    let spot = Spot { at, word: number };
+    if gaps_of(at.fault) != Gaps::Spaces {
+        return add_known(draft, spot);
+    }
+    let length = draft.len();
+    if word_at(at.text, number).is_some() {
+        let is_said = add_unit(draft, spot)
+            || has_spelling(at.fault) && add_respelled(draft, spot, is_of_number(spot));
+        if is_said {
+            return;
+        }
+        add_known(draft, spot);
+        if draft.len() == length {
+            let _ = add_value(draft, spot);
+        }
+    }
+    if draft.len() == length {
+        add_repaired(draft, spot);
+    }
+}
+
+/// Whether a line is right but for the carriage return at its end.
+pub fn is_right_but_for_return(draft: &mut Draft, at: FaultyLine<'_>) -> bool {
+    at.place.line.ends_with(b"\r")
+        && is_whole_line_read(draft, Spot { at, word: 0 }, at.text, at.text)
 }

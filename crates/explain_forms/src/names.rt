@@ -160,3 +160,17 @@ pub fn add_named_header(draft: &mut Draft, spot: Spot<'_>, word: &str) -> bool {
         }
     }
 }
+
+/// A sender and a receiver of a frame in the place of the sender's name alone. Returns whether it is that.
+pub fn add_sender(draft: &mut Draft, spot: Spot<'_>, word: &str) -> bool {
+    let Some((from, to)) = word.split_once(">") else {
+        return false;
+    };
+    match format!(in draft.alloc(); "{from} @{from}>@{to}") {
+        Ok(text) => add_suggestion(draft, spot, text.as_str(), word),
+        Err(AllocError) => {
+            draft.fail();
+            false
+        }
+    }
+}

@@ -6,7 +6,7 @@ use explain_lists::{Draft, add_shape};
 use explain_marks::Input;
 use explain_near::{
     add_enclosed, add_header_meant, add_nearest, add_nearest_opcode, add_nearest_operand,
-    add_opcode_alone, add_other_opcode, add_parted, add_parts, add_pattern_operands_meant,
+    add_opcode_alone, add_other, add_parted, add_parts, add_pattern_operands_meant,
     add_pattern_words_meant, add_suggestion, add_text, add_unparted,
 };
 use message_table::code_named;
@@ -132,8 +132,9 @@ fn add_sender(draft: &mut Draft, spot: Spot<'_>, word: &str) -> bool {
     }
     if is_sender_word(before) {
         add_sender_name(draft, spot, word);
+        return true;
     }
-    is_sender_word(before)
+    is_of_sender && add_enclosed(draft, spot, "* ", word, "", word)
 }
 
 // ---- places
@@ -155,7 +156,7 @@ fn add_named_opcode(draft: &mut Draft, spot: Spot<'_>, word: &str) -> bool {
     add_opcode(draft, spot)
         || add_nearest_opcode(draft, spot, word)
         || add_parts(draft, spot)
-        || add_other_opcode(draft, spot, word)
+        || add_other(draft, spot, word)
 }
 
 // What another word may have been meant for, after a pattern's first word, the one of this number. Returns whether there is

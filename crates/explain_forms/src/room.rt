@@ -1,5 +1,5 @@
 //! The lines of an EDID's text: how many fields they have, and the room that they take in an extension.
-use edid_text_lines::{LineContent, word_of};
+use edid_text_lines::{LineContent, WORD_TEXTS, word_of};
 use explain_lists::{Draft, word_at, word_count};
 use explain_marks::{InputLine, is_line_end};
 use text_core::spaces_unquoted;
@@ -131,4 +131,25 @@ pub fn add_field_count(draft: &mut Draft, line: &str) -> bool {
         "  a `{word}` line has {fields}; this one has {count}"
     );
     true
+}
+
+/// How many lines a base block has up to its timings, one for each of the first words, and eight of the last of these.
+const FRONT: usize = 19;
+
+/// The number of that last one, `standard`, among the words.
+const STANDARD: usize = 11;
+
+/// The word of the line that has to stand at a place of a base block, where there is one alone. Lines that begin with a space are
+/// none.
+pub fn next_word(place: InputLine<'_>) -> Option<&'static str> {
+    let lines = place
+        .input
+        .split(is_line_end)
+        .take(place.number.saturating_sub(1));
+    let above = lines.filter(|line| !line.starts_with(b" ")).count();
+    if above < FRONT {
+        WORD_TEXTS.get(above.min(STANDARD)).copied()
+    } else {
+        None
+    }
 }

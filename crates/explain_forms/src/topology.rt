@@ -7,50 +7,8 @@ use explain_near::{add_near, add_nearest, add_number, add_other, add_suggestion}
 use room_script::TopologyCause;
 use text_core::Kind;
 
-/// Words that stand for kinds elsewhere, each with the KIND here.
-const OTHER_KINDS: &[(&str, &str)] = &[
-    ("television", "tv"),
-    ("display", "tv"),
-    ("avr", "amp"),
-    ("receiver", "amp"),
-    ("amplifier", "amp"),
-    ("audio-system", "amp"),
-    ("soundbar", "amp"),
-    ("playback", "player"),
-    ("source", "player"),
-    ("recording", "recorder"),
-    ("splitter", "switch"),
-    ("hub", "switch"),
-    ("matrix", "switch"),
-    ("audio", "amp"),
-    ("bluray", "player"),
-    ("blu-ray", "player"),
-    ("dvd", "player"),
-    ("console", "player"),
-    ("external", "outside"),
-    ("external-tv", "outside-tv"),
-    ("stb", "player"),
-    ("settop", "player"),
-    ("set-top-box", "player"),
-    ("laptop", "player"),
-    ("pc", "player"),
-];
-
 /// The words with which lines of a topology begin, and the one between it and a script.
 const TOPOLOGY_VERBS: &[&str] = &["device", "plug", "edid", "script"];
-
-/// Words that lines of a topology begin with elsewhere.
-const OTHER_VERBS: &[(&str, &str)] = &[
-    ("connect", "plug"),
-    ("attach", "plug"),
-    ("join", "plug"),
-    ("link", "plug"),
-    ("cable", "plug"),
-    ("node", "device"),
-    ("add", "device"),
-    ("dev", "device"),
-    ("name", "device"),
-];
 
 // What a name of a topology's line may have been meant for, by its line.
 fn of_topology_name(draft: &mut Draft, spot: Spot<'_>, word: &str) {
@@ -90,7 +48,7 @@ fn add_nearest_kind(draft: &mut Draft, spot: Spot<'_>, word: &str) {
             return;
         }
     }
-    let _ = add_other(draft, spot, OTHER_KINDS, word);
+    let _ = add_other(draft, spot, word);
 }
 
 // What the first word of a topology's line may have been meant for: one with which such a line begins, or a line of the script.
@@ -105,8 +63,7 @@ fn of_topology_verb(draft: &mut Draft, spot: Spot<'_>, word: &str) {
     } else if Kind::named(word.as_bytes()).is_some() {
         draft.add_line("`device` and NAME stand before KIND, as `device tv tv 4`");
     } else {
-        let _ = add_nearest(draft, spot, TOPOLOGY_VERBS, word)
-            || add_other(draft, spot, OTHER_VERBS, word);
+        let _ = add_nearest(draft, spot, TOPOLOGY_VERBS, word) || add_other(draft, spot, word);
     }
 }
 

@@ -269,11 +269,6 @@ fn word_after(lines: &[Lines], line: &str, count: usize) -> Option<&'static str>
     after
 }
 
-/// The word that stands for itself and that a line has to have at a place, where one form alone fits the words before it.
-pub fn wanted_at(lines: &[Lines], line: &str, place: usize) -> Option<&'static str> {
-    word_after(lines, line, place).filter(|word| !is_value(word))
-}
-
 /// The word that a line lacks at its end, where one form alone fits all that it has.
 pub fn missing(lines: &[Lines], line: &str) -> Option<&'static str> {
     word_after(lines, line, line.split(' ').count())

@@ -16,9 +16,7 @@ pub use expectations::{
     as_form, forms_of, label_words, labelled_by, plain, window_start, without_label,
 };
 pub use fault::{Input, InputFault, Parting, WholeFault};
-pub use form::{
-    Expected, Form, Lines, fitting, forms_in, is_value, missing, most_fitting, wanted_at,
-};
+pub use form::{Expected, Form, Lines, fitting, forms_in, is_value, missing, most_fitting};
 pub use grammar::{
     EXPECTATIONS, LAID, NETWORK, REFUSALS, REMARKS, SCRIPT, SESSION, SESSION_ALONE, STEPS, TEST,
     TOPOLOGY, is_event_word, is_script_verb,

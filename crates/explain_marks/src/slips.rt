@@ -92,7 +92,9 @@ fn begins_with_letter(word: &str) -> bool {
 fn in_state(line: &str) -> Option<Slipped> {
     match word_at(line, 2) {
         Some("at") => at_words(WordSlip::StrayAt, 2, 2),
-        Some(word) if begins_with_letter(word) => at_words(WordSlip::NoTime, 2, 2),
+        Some(word) if begins_with_letter(word) && !begins_with_digit(word_at(line, 3)) => {
+            at_words(WordSlip::NoTime, 2, 2)
+        }
         _ => None,
     }
 }

@@ -1,5 +1,6 @@
 //! What the header and the opcode of a frame's text may have been meant for.
-use crate::near::{add_enclosed, add_near, add_other, add_suggestion, is_near};
+use crate::near::{add_enclosed, add_near, add_suggestion, is_near};
+use crate::others::{add_other, add_other_opcode_after};
 use explain_again::{Spot, is_taken};
 use explain_lists::Draft;
 use message_hex::frame_in;
@@ -13,22 +14,8 @@ const DIGITS: &[u8] = b"0123456789abcdef";
 /// The marks that stand for `>` elsewhere, as words of their own.
 const ARROWS: &[&str] = &[">", "->", "=>", "to"];
 
-/// Opcodes that are called otherwise elsewhere.
-const OTHER_OPCODES: &[(&str, &str)] = &[
-    ("push", "user-control-pressed"),
-    ("press", "user-control-pressed"),
-    ("pressed", "user-control-pressed"),
-    ("key", "user-control-pressed"),
-    ("release", "user-control-released"),
-    ("released", "user-control-released"),
-    ("vendor-id", "device-vendor-id"),
-    ("power-status", "report-power-status"),
-    ("physical-address", "report-physical-address"),
-    ("audio-status", "report-audio-status"),
-    ("osd-name", "set-osd-name"),
-    ("osd-string", "set-osd-string"),
-    ("abort", "feature-abort"),
-];
+/// What stands for any header in a pattern, with the space after it.
+const ANY: &str = "* ";
 
 /// The first name of an opcode that a word may have been meant for. Returns whether there is one.
 pub fn add_nearest_opcode(draft: &mut Draft, spot: Spot<'_>, word: &str) -> bool {
@@ -40,11 +27,6 @@ pub fn add_nearest_opcode(draft: &mut Draft, spot: Spot<'_>, word: &str) -> bool
         }
     }
     false
-}
-
-/// The opcode that a word stands for elsewhere. Returns whether there is one.
-pub fn add_other_opcode(draft: &mut Draft, spot: Spot<'_>, word: &str) -> bool {
-    add_other(draft, spot, OTHER_OPCODES, word)
 }
 
 /// The text of a frame that stands in hex. Returns whether one does.
@@ -86,7 +68,7 @@ fn header_in(word: &str) -> Option<(u8, u8)> {
             (from.is_ascii_hexdigit() && to.is_ascii_hexdigit()).then_some((*from, *to))
         }
         [_, b'>', _] => None,
-        [from, b'-' | b'=', b'>', to] | [from, b'-' | b':' | b'<', to] => {
+        [from, b'-' | b'=', b'>', to] | [from, b'-' | b':' | b'<', to] | [from, to] => {
             (from.is_ascii_hexdigit() && to.is_ascii_hexdigit()).then_some((*from, *to))
         }
         _ => in_decimal(word),
@@ -238,7 +220,7 @@ pub fn add_parts(draft: &mut Draft, spot: Spot<'_>) -> bool {
 
 // Suggests the name of an opcode after any header, in the place of words of a pattern.
 fn add_after_any(draft: &mut Draft, spot: Spot<'_>, name: &str, words: &str) -> bool {
-    add_enclosed(draft, spot, "* ", name, "", words)
+    add_enclosed(draft, spot, ANY, name, "", words)
 }
 
 // The words that an opcode's name has been written with: its own, one that is near, or its parts.
@@ -254,10 +236,8 @@ fn words_of_name<'a>(draft: &mut Draft, spot: Spot<'a>, name: &str) -> Option<&'
 // The name of an opcode that stands for another word of it. Returns whether there is one.
 fn add_other_alone(draft: &mut Draft, spot: Spot<'_>) -> bool {
     let word = spot.text();
-    for (other, meant) in OTHER_OPCODES {
-        if word.eq_ignore_ascii_case(other) {
-            return add_after_any(draft, spot, meant, word);
-        }
+    if add_other_opcode_after(draft, spot, ANY, word) {
+        return true;
     }
     match word.strip_prefix("op-") {
         Some(digits) if digits.len() == 2 => match u8::from_str_radix(digits, 16) {
@@ -290,5 +270,5 @@ pub fn add_opcode_meant(draft: &mut Draft, spot: Spot<'_>) {
     let word = spot.text();
     let _ = add_nearest_opcode(draft, spot, word)
         || add_parts(draft, spot)
-        || add_other_opcode(draft, spot, word);
+        || add_other(draft, spot, word);
 }

@@ -15,25 +15,22 @@ fn is_one_edit(draft: &mut Draft, known: &str, word: &str) -> bool {
     }
 }
 
-// A byte as it is compared: in lower case, and `_` as `-`.
-fn plain_byte(byte: u8) -> u8 {
-    if byte == b'_' {
-        b'-'
-    } else {
-        byte.to_ascii_lowercase()
-    }
+// Whether a byte is part of a word, and no mark between parts of it.
+fn is_letter(byte: &u8) -> bool {
+    *byte != b'-' && *byte != b'_'
 }
 
-// Whether two words are the same but for case, and `_` in the place of `-`.
+// Whether two words are the same but for case, and for `-` and `_` between their parts.
 fn is_same_but_for_case(known: &str, word: &str) -> bool {
-    known.len() == word.len()
-        && known
-            .bytes()
-            .zip(word.bytes())
-            .all(|(one, other)| plain_byte(one) == plain_byte(other))
+    let letters = known.bytes().filter(is_letter);
+    let others = word.bytes().filter(is_letter);
+    known.bytes().filter(is_letter).count() == word.bytes().filter(is_letter).count()
+        && letters
+            .zip(others)
+            .all(|(one, other)| one.eq_ignore_ascii_case(&other))
 }
 
-/// Whether a known word is what somebody may have meant by another: the same but for case and `_`, or one edit away.
+/// Whether a known word is what somebody may have meant by another: the same but for case and marks between its parts, or one edit away.
 pub fn is_near(draft: &mut Draft, known: &str, word: &str) -> bool {
     if known == word {
         return false;
@@ -80,16 +77,6 @@ pub fn add_near(draft: &mut Draft, spot: Spot<'_>, near: &str, word: &str) -> bo
 pub fn add_nearest(draft: &mut Draft, spot: Spot<'_>, known: &[&str], word: &str) -> bool {
     for near in known {
         if add_near(draft, spot, near, word) {
-            return true;
-        }
-    }
-    false
-}
-
-/// The first word that another one stands for in such a list, and that is taken in its place. Returns whether there is one.
-pub fn add_other(draft: &mut Draft, spot: Spot<'_>, others: &[(&str, &str)], word: &str) -> bool {
-    for (other, meant) in others {
-        if word.eq_ignore_ascii_case(other) && add_suggestion(draft, spot, meant, word) {
             return true;
         }
     }

@@ -1,26 +1,19 @@
 //! Numbers that are written otherwise.
-use crate::near::add_other;
+use crate::near::add_suggestion;
+use crate::others::add_other;
 use explain_again::{Spot, is_taken};
 use explain_lists::Draft;
 use std::alloc::AllocError;
 
-/// Numbers in words.
-const IN_WORDS: &[(&str, &str)] = &[
-    ("zero", "0"),
-    ("one", "1"),
-    ("two", "2"),
-    ("three", "3"),
-    ("four", "4"),
-    ("five", "5"),
-    ("six", "6"),
-    ("seven", "7"),
-    ("eight", "8"),
-    ("nine", "9"),
-    ("ten", "10"),
-];
-
 /// Units of time after a number, and how many microseconds each is.
-const UNITS: &[(&str, u64)] = &[("us", 1), ("ms", 1_000), ("s", 1_000_000)];
+const UNITS: &[(&str, u64)] = &[
+    ("us", 1),
+    ("usec", 1),
+    ("ms", 1_000),
+    ("msec", 1_000),
+    ("s", 1_000_000),
+    ("sec", 1_000_000),
+];
 
 // The number that the digits of a word spell, marks between them aside.
 fn digits_of(word: &str) -> Option<u64> {
@@ -29,7 +22,7 @@ fn digits_of(word: &str) -> Option<u64> {
         if byte.is_ascii_digit() {
             let digit = u64::from(byte.saturating_sub(b'0'));
             number = number.checked_mul(10)?.checked_add(digit)?;
-        } else if byte != b'_' && byte != b',' {
+        } else if byte != b'_' && byte != b',' && byte != b'\'' {
             return None;
         }
     }
@@ -70,10 +63,28 @@ fn add_digits(draft: &mut Draft, spot: Spot<'_>, word: &str) {
     }
 }
 
+// A number with a plus before it, or one in hex. Returns whether it is one.
+fn add_plain(draft: &mut Draft, spot: Spot<'_>, word: &str) -> bool {
+    let (number, wrong) = if let Some(digits) = word.strip_prefix("+") {
+        (digits_of(digits), "a number has no sign")
+    } else if let Some(digits) = word.strip_prefix("0x") {
+        (u64::from_str_radix(digits, 16).ok(), "a number is decimal")
+    } else {
+        (None, "")
+    };
+    match number {
+        Some(number) => {
+            add_spelled(draft, spot, word, wrong, number);
+            true
+        }
+        None => false,
+    }
+}
+
 // A number with a sign or a point. Returns whether it is one.
 fn add_mark(draft: &mut Draft, word: &str) -> bool {
     let mark = match word.as_bytes() {
-        [b'-' | b'+', digits @ ..] if is_all_digits(digits) => "sign",
+        [b'-', digits @ ..] if is_all_digits(digits) => "sign",
         bytes if is_pointed(bytes) => "point",
         _ => return false,
     };
@@ -114,7 +125,10 @@ fn add_tail(draft: &mut Draft, word: &str) {
 
 // A number with a sign or a point, or with something after it.
 fn add_odd(draft: &mut Draft, spot: Spot<'_>, word: &str) {
-    if !add_mark(draft, word) && !add_other(draft, spot, IN_WORDS, word) {
+    let is_said = add_plain(draft, spot, word)
+        || add_mark(draft, word)
+        || add_other(draft, spot, word);
+    if !is_said {
         add_tail(draft, word);
     }
 }
@@ -127,19 +141,64 @@ fn add_spelling(draft: &mut Draft, spot: Spot<'_>, word: &str) {
     }
 }
 
-// A number with a unit. Returns whether it has one.
-fn add_without_unit(draft: &mut Draft, spot: Spot<'_>, word: &str) -> bool {
-    for (unit, microseconds) in UNITS {
-        if let Some(digits) = word.strip_suffix(*unit) {
-            if let (false, Some(number)) = (digits.is_empty(), digits_of(digits)) {
-                let time = number.saturating_mul(*microseconds);
-                let wrong = "times are microseconds, and no unit follows them";
-                add_spelled(draft, spot, word, wrong, time);
-                return true;
-            }
+// How many microseconds a number of a unit is, perhaps with a point, where they are whole.
+fn microseconds(number: &str, unit: u64) -> Option<u64> {
+    let (whole, decimals) = number.split_once(".").unwrap_or((number, ""));
+    let mut time = digits_of(whole)?.checked_mul(unit)?;
+    let mut rest = unit;
+    for digit in decimals.bytes() {
+        if !is_digit(digit) || rest % 10 != 0 && digit != b'0' {
+            return None;
+        }
+        rest = rest / 10;
+        let count = u64::from(digit.saturating_sub(b'0'));
+        time = time.checked_add(count.checked_mul(rest)?)?;
+    }
+    Some(time)
+}
+
+// The microseconds of a number in a unit that has this word.
+fn time_in(number: &str, word: &str) -> Option<u64> {
+    for (unit, length) in UNITS {
+        if *unit == word && !number.is_empty() {
+            return microseconds(number, *length);
         }
     }
-    false
+    None
+}
+
+// A number with a unit. Returns whether it has one.
+fn add_without_unit(draft: &mut Draft, spot: Spot<'_>, word: &str) -> bool {
+    let number = word.trim_end_matches(|c: char| c.is_ascii_alphabetic());
+    match time_in(number, word.strip_prefix(number).unwrap_or("")) {
+        Some(time) => {
+            let wrong = "times are microseconds, and no unit follows them";
+            add_spelled(draft, spot, word, wrong, time);
+            true
+        }
+        None => false,
+    }
+}
+
+/// A unit that stands as a word of its own, after its number. Returns whether the time in microseconds is suggested in the place of
+/// both.
+pub fn add_unit(draft: &mut Draft, spot: Spot<'_>) -> bool {
+    let Some(before) = spot.word.checked_sub(1) else {
+        return false;
+    };
+    let number = spot.moved_to(before);
+    let Some(time) = time_in(number.text(), spot.text()) else {
+        return false;
+    };
+    let alloc = draft.alloc();
+    let (Ok(words), Ok(text)) = (
+        format!(in alloc; "{} {}", number.text(), spot.text()),
+        format!(in alloc; "{time}"),
+    ) else {
+        draft.fail();
+        return false;
+    };
+    add_suggestion(draft, number, text.as_str(), words.as_str())
 }
 
 /// What is wrong with a word that is no number of its place: it is too large, or has a unit, a sign, a point, or marks between its

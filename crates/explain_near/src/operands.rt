@@ -1,48 +1,13 @@
 //! What the operands of a frame's text may have been meant for.
 use crate::frames::{front_of, is_joined};
 use crate::near::{add_enclosed, add_near, add_suggestion};
+use crate::others::add_other;
 use explain_again::{Spot, is_taken};
 use explain_lists::{Draft, OPERAND_WORDS, word_at, word_count};
 use line_frames::Frame;
 use message_table::{Operand, Operands, WordSet, code_named, operands_of};
 use message_text::frame_text;
 use std::alloc::AllocError;
-
-/// Words that stand for an operand elsewhere, each with one here.
-const OTHER_WORDS: &[(&str, &str)] = &[
-    ("ok", "select"),
-    ("okay", "select"),
-    ("enter", "select"),
-    ("vol-up", "volume-up"),
-    ("vol-down", "volume-down"),
-    ("vol+", "volume-up"),
-    ("vol-", "volume-down"),
-    ("home", "root-menu"),
-    ("menu", "root-menu"),
-    ("back", "exit"),
-    ("return", "exit"),
-    ("display", "tv"),
-    ("television", "tv"),
-    ("player", "playback"),
-    ("recording", "recorder"),
-    ("amp", "audio"),
-    ("receiver", "audio"),
-    ("off", "standby"),
-    ("off", "deactivated"),
-    ("on", "activated"),
-    ("true", "on"),
-    ("yes", "on"),
-    ("1", "on"),
-    ("false", "off"),
-    ("no", "off"),
-    ("0", "off"),
-    ("pause", "still"),
-    ("paused", "still"),
-    ("playing", "play"),
-    ("stopped", "stop"),
-    ("unknown", "unrecognized"),
-    ("invalid", "invalid-operand"),
-];
 
 /// The first word of an operand that a word may have been meant for. Returns whether there is one.
 pub fn add_nearest_operand(draft: &mut Draft, spot: Spot<'_>, word: &str) -> bool {
@@ -64,22 +29,9 @@ fn add_nearest_of_set(draft: &mut Draft, spot: Spot<'_>, set: WordSet, word: &st
     false
 }
 
-// The word of a set that stands for one that is used elsewhere. Returns whether there is one.
-fn add_other_of_set(draft: &mut Draft, spot: Spot<'_>, set: WordSet, word: &str) -> bool {
-    for (other, meant) in OTHER_WORDS {
-        if word.eq_ignore_ascii_case(other)
-            && set.byte(meant.as_bytes()).is_some()
-            && add_suggestion(draft, spot, meant, word)
-        {
-            return true;
-        }
-    }
-    false
-}
-
 /// The word of a set that a word may have been meant for. Returns whether there is one.
 pub fn add_set_meant(draft: &mut Draft, spot: Spot<'_>, set: WordSet, word: &str) -> bool {
-    add_other_of_set(draft, spot, set, word) || add_nearest_of_set(draft, spot, set, word)
+    add_other(draft, spot, word) || add_nearest_of_set(draft, spot, set, word)
 }
 
 // ---- the words of an opcode
@@ -129,6 +81,12 @@ fn add_words_meant(draft: &mut Draft, spot: Spot<'_>, operands: Operands) -> boo
 // Whether a text has an even count of hex digits, and at least two.
 fn is_hex(text: &str) -> bool {
     !text.is_empty() && text.len() % 2 == 0 && text.bytes().all(|byte| byte.is_ascii_hexdigit())
+}
+
+// The digits of a word, without the `:` or `0x` before them.
+fn digits_of(word: &str) -> &str {
+    let digits = word.strip_prefix(":").unwrap_or(word);
+    digits.strip_prefix("0x").unwrap_or(digits)
 }
 
 /// Suggests the digits of an opcode in the place of a word. Returns whether they are taken.
@@ -238,8 +196,7 @@ fn frame_of(start: [u8; 2], digits: &str) -> Option<Frame> {
 
 // The text of a frame whose operands stand as digits though words say them. Returns whether there is one.
 fn add_text_of(draft: &mut Draft, spot: Spot<'_>, code: u8) -> bool {
-    let word = spot.text();
-    let digits = word.strip_prefix(":").unwrap_or(word);
+    let digits = digits_of(spot.text());
     if !is_hex(digits) || digits.len() > 28 {
         return false;
     }
@@ -277,8 +234,7 @@ fn add_words_of_hex(draft: &mut Draft, spot: Spot<'_>) -> bool {
     let Some(code) = code_named(name.text().as_bytes()) else {
         return false;
     };
-    let word = spot.text();
-    let digits = word.strip_prefix(":").unwrap_or(word);
+    let digits = digits_of(spot.text());
     if !is_hex(digits) {
         return false;
     }
