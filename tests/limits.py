@@ -2,7 +2,7 @@
 """tests/limits.py [PROGRAM]: inputs as long as the documents allow, none of which is refused for want of memory.
 
 No contract says how much memory a call takes, so a call that gives up early, as past 1,000,000 edges of a capture, meets all of
-its clauses (docs/proved.md, Memory). Each call here has the greatest input that docs/formats.md allows: five million edges in
+its clauses (docs/proved.md, Memory). Each call here has the greatest input that the pages of docs/formats.md allow: five million edges in
 64 MiB of a capture, 16,384 pulls, 1,000,000 instants of a sweep, 1 MiB of steps, of frames in hex, of frames as words, and of frames
 to lay. It ends with status 0, says nothing on standard error, and writes as many lines as the input asks for; the first and the
 last are worked out by hand. An input of one byte or one item more is refused by name. PROGRAM is crates/hdminet/out/hdminet, which
