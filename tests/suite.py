@@ -19,6 +19,7 @@ from bitbanged import FAULTS, BitBanged, Timing  # noqa: E402
 from faulty import SLIPS  # noqa: E402
 import faulty_features  # noqa: E402
 import faulty_messages  # noqa: E402, F401
+import faulty_opcodes  # noqa: E402, F401
 import faulty_televisions  # noqa: E402, F401
 from dut import Dut  # noqa: E402
 from emulated import Emulated  # noqa: E402
