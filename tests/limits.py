@@ -7,13 +7,13 @@ its clauses (docs/proved.md, Memory). Each call here has the greatest input that
 to lay. It ends with status 0, says nothing on standard error, and writes as many lines as the input asks for; the first and the
 last are worked out by hand. An input of one byte or one item more is refused by name. PROGRAM is crates/hdminet/out/hdminet, which
 ./hdminet builds, where none is given. The last line is 'limits: N passed, M failed', and the status is 0 where M is 0."""
-import os
 import subprocess
 import sys
 import time
 
-TOP = os.path.dirname(os.path.dirname(os.path.realpath(__file__)))
-PROGRAM = os.path.realpath(sys.argv[1]) if len(sys.argv) > 1 else os.path.join(TOP, 'crates/hdminet/out/hdminet')
+from built import Count, program
+
+PROGRAM = program()
 EDGES, LONGEST_CAPTURE = 5_000_000, 67_108_864
 PULLS, PULSES = 16_384, 4_096
 INSTANTS = 1_000_000
@@ -31,17 +31,8 @@ def output(words, text):
     return done.stdout.decode(), done.stderr.decode(), done.returncode
 
 
-class Count:
-    """how many passed, and how many failed"""
-
-    def __init__(self):
-        self.passed = self.failed = 0
-
-    def note(self, what, is_right):
-        self.passed += bool(is_right)
-        self.failed += not is_right
-        if not is_right:
-            print('limits: ' + what)
+class Limits(Count):
+    """inputs that are taken, and that are refused"""
 
     def taken(self, what, words, text, count, first, last):
         """the input is taken, and gives so many lines"""
@@ -147,15 +138,14 @@ def frames(count):
 
 
 def main():
-    count = Count()
+    count = Limits('limits')
     captures(count)
     runs(count)
     sweeps(count)
     steps(count)
     frames(count)
-    print('limits: %d passed, %d failed' % (count.passed, count.failed))
-    sys.exit(1 if count.failed else 0)
+    return count.told()
 
 
 if __name__ == '__main__':
-    main()
+    sys.exit(main())
