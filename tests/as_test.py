@@ -11,10 +11,9 @@ again: the rounds are those of the trace that README.md explains.
 PROGRAM is crates/hdminet/out/hdminet, and what Rattle's own compiler makes of the same sources, hdminet.by-rattle beside it, where none
 is given. The last line is 'as test: N passed, M failed', and the status is 0 where M is 0."""
 import os
-import subprocess
 import sys
 
-from built import TOP, programs, told
+from built import TOP, programs, ran, told
 
 # In microseconds: the start bit's low time and total, a one, a zero, a slot (CEC 5.2.1, 5.2.2).
 START_LOW, START_TOTAL, ONE, ZERO, TOTAL = 3700, 4500, 600, 1500, 2400
@@ -107,14 +106,9 @@ SAME = [
 ]
 
 
-def run(program, words, text):
-    ran = subprocess.run([program, *words], input=text.encode(), capture_output=True)
-    return ran.returncode, ran.stdout.decode(), ran.stderr.decode()
-
-
 def verdict(program, test, dialogue):
     """The status, and the lines of the report that do not hold. A fault in the test itself has status 1 and no report."""
-    status, report, fault = run(program, ["check", "--capture"], test + edges_of(dialogue))
+    report, fault, status = ran(program, ["check", "--capture"], test + edges_of(dialogue))
     lines = report.splitlines()
     if not lines or lines[0] != "TAP version 13":
         return "no report: %s" % fault.strip(), []
@@ -139,9 +133,9 @@ ROUNDS = """\
 def replayed(program):
     """Why a room does not meet the player again by what it drove (`mon --replay`): the rounds are those of the room that had it."""
     with open(os.path.join(TOP, "examples/first-path.net"), encoding="utf-8") as file:
-        line = run(program, ["run", "--edges"], file.read())[1]
-    pins = run(program, ["mon", "--replay", "4"], line)[1]
-    trace = run(program, ["run"], "device tv tv 4\nscript\n" + pins)[1]
+        line = ran(program, ["run", "--edges"], file.read())[0]
+    pins = ran(program, ["mon", "--replay", "4"], line)[0]
+    trace = ran(program, ["run"], "device tv tv 4\nscript\n" + pins)[0]
     rounds = "".join(it for it in trace.splitlines(True) if " complete " in it)
     return None if rounds == ROUNDS else "a replay: %s" % rounds
 
@@ -150,7 +144,7 @@ def main():
     passed, failed = 0, []
     assert len(MUTATIONS) == 20
     for program in programs():
-        status, test, fault = run(program, ["mon", "--as-test"], edges_of(DIALOGUE))
+        test, fault, status = ran(program, ["mon", "--as-test"], edges_of(DIALOGUE))
         if status or not test.endswith("\ncapture\n") or test.count("\n") != len(DIALOGUE) + 2 + ("expect no-remark" in test):
             failed.append("%s: status %s, %s\n%s" % (program, status, fault, test))
             continue
@@ -160,7 +154,7 @@ def main():
                 passed += 1
             else:
                 failed.append("%s: status %s, %s" % (name, status, missed))
-        starred = run(program, ["mon", "--as-test"], edges_of(STARRED))[1]
+        starred = ran(program, ["mon", "--as-test"], edges_of(STARRED))[0]
         status, missed = verdict(program, starred, STARRED)
         if status == 0 and not missed and starred.endswith("\ncapture\n"):
             passed += 1

@@ -1,5 +1,7 @@
 """The programs that tests run, and the last lines that they print."""
+import json
 import os
+import subprocess
 import sys
 
 TOP = os.path.dirname(os.path.dirname(os.path.realpath(__file__)))
@@ -15,6 +17,18 @@ def programs():
 def program():
     """The program that the command line names first, or else the one that `rt ci` left."""
     return os.path.realpath(sys.argv[1]) if sys.argv[1:] else BUILT[0]
+
+
+def ran(it, words, given):
+    """What a program writes of a text or bytes: its standard output and standard error, and its status."""
+    done = subprocess.run([it, *words], input=given if isinstance(given, bytes) else given.encode(), capture_output=True, check=False)
+    return done.stdout.decode(), done.stderr.decode(), done.returncode
+
+
+def objects(it, words, given):
+    """The objects that it writes, and its status."""
+    out, _, status = ran(it, words, given)
+    return [json.loads(line) for line in out.splitlines()], status
 
 
 def told(what, passed, failed):

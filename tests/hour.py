@@ -11,10 +11,9 @@ import importlib.util
 import os
 import random
 import shutil
-import subprocess
 import sys
 
-from built import TOP, Count, program
+from built import TOP, Count, program, ran
 
 PROGRAM = program()
 SEED = int(sys.argv[2]) if len(sys.argv) > 2 else 1
@@ -67,8 +66,7 @@ def script(rng):
 
 
 def output(words, text):
-    done = subprocess.run([PROGRAM, *words], input=text.encode(), stdout=subprocess.PIPE, stderr=subprocess.PIPE, check=False)
-    return done.stdout.decode(), done.stderr.decode(), done.returncode
+    return ran(PROGRAM, words, text)
 
 
 def stretches(edges):

@@ -7,11 +7,10 @@ its clauses (docs/proved.md, Memory). Each call here has the greatest input that
 to lay. It ends with status 0, says nothing on standard error, and writes as many lines as the input asks for; the first and the
 last are worked out by hand. An input of one byte or one item more is refused by name. PROGRAM is crates/hdminet/out/hdminet, which
 ./hdminet builds, where none is given. The last line is 'limits: N passed, M failed', and the status is 0 where M is 0."""
-import subprocess
 import sys
 import time
 
-from built import Count, program
+from built import Count, program, ran
 
 PROGRAM = program()
 EDGES, LONGEST_CAPTURE = 5_000_000, 67_108_864
@@ -27,8 +26,7 @@ POLL_EACH = 36_000
 
 
 def output(words, text):
-    done = subprocess.run([PROGRAM, *words], input=text.encode(), stdout=subprocess.PIPE, stderr=subprocess.PIPE, check=False)
-    return done.stdout.decode(), done.stderr.decode(), done.returncode
+    return ran(PROGRAM, words, text)
 
 
 class Limits(Count):

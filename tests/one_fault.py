@@ -7,12 +7,10 @@ answer, so that a frame which breaks leaves nobody waiting. The remark has the k
 
 PROGRAM is crates/hdminet/out/hdminet, and what Rattle's own compiler makes of the same sources, hdminet.by-rattle beside it, where none
 is given. The last line is 'one fault: N passed, M failed', and the status is 0 where M is 0."""
-import json
 import random
-import subprocess
 import sys
 
-from built import programs, told
+from built import objects, programs, told
 
 LINES, FRAMES = 400, 12
 # In microseconds: the start bit's low time and total, a one, a zero, a slot; and their windows (CEC 5.2.1, 5.2.2).
@@ -83,9 +81,8 @@ def line_of(number):
 
 def remarks(program, flags, edges):
     """The remarks of an audit: the kind, the slot, the width."""
-    ran = subprocess.run([program, "mon", "--audit", "--json", *flags], input=edges.encode(), capture_output=True)
-    objects = [json.loads(it) for it in ran.stdout.decode().splitlines()]
-    return [(it["remark"], it.get("slot"), it.get("width")) for it in objects if it["type"] == "remark"]
+    found, _ = objects(program, ["mon", "--audit", "--json", *flags], edges)
+    return [(it["remark"], it.get("slot"), it.get("width")) for it in found if it["type"] == "remark"]
 
 
 def main():

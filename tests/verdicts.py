@@ -10,10 +10,9 @@ PROGRAM is crates/hdminet/out/hdminet, and what Rattle's own compiler makes of t
 is given. The last line is 'verdicts: N passed, M failed', and the status is 0 where M is 0."""
 import json
 import random
-import subprocess
 import sys
 
-from built import programs, told
+from built import programs, ran, told
 
 EACH, FRAMES = 20, 12
 # In microseconds, within the windows of CEC 5.2.1 and 5.2.2: the start bit's low time and total, a one, a zero, a slot.
@@ -138,7 +137,7 @@ def cases(number):
 
 
 def run(program, flags, text):
-    return subprocess.run([program, "mon", *flags], input=text.encode(), capture_output=True).stdout.decode()
+    return ran(program, ["mon", *flags], text)[0]
 
 
 def complete(program, flags, text):
