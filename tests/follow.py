@@ -9,24 +9,19 @@ import subprocess
 import sys
 
 from built import program, tests_told
+from line_maker import Slots
 
 PROGRAM = program()
 NAMES = 'Time [s],CEC\n' + '5.000000,1\n'
 HEAD = '# cec-ctl --store-pin\n# version 1\n# start_monotonic 100.000000000\n# start_timeofday 0.000000\n# log_addr_mask 0x0000\n# phys_addr f.f.f.f\n'
-BITS = {0: 1500, 1: 600}
 MEGABYTE = 1024
 
 
 def edges_of(blocks, begin):
     """The edges of a message: (instant, level), by the nominal times of the standard. Each block is a byte, its end of message and
     how it is acknowledged."""
-    edges = [(begin, 0), (begin + 3700, 1)]
-    at = begin + 4500
-    for byte, last, ack in blocks:
-        for bit in [byte >> i & 1 for i in range(7, -1, -1)] + [last, ack]:
-            edges += [(at, 0), (at + BITS[bit], 1)]
-            at += 2400
-    return edges
+    slots = Slots([byte for byte, _, _ in blocks], [not ack for _, _, ack in blocks], True, {place: last for place, (_, last, _) in enumerate(blocks)})
+    return [edge for fall, rise in slots.stretches(begin)[0] for edge in ((fall, 0), (rise, 1))]
 
 
 def pin_line(at, level):
