@@ -11,62 +11,42 @@ again: the rounds are those of the trace that README.md explains.
 PROGRAM is crates/hdminet/out/hdminet, and what Rattle's own compiler makes of the same sources, hdminet.by-rattle beside it, where none
 is given. The last line is 'as test: N passed, M failed', and the status is 0 where M is 0."""
 import os
-import subprocess
 import sys
 
-from built import TOP, programs, told
+from built import TOP, programs, ran, told
+from line_maker import PERIOD, PRESENT_INITIATOR, Slots, edge_file, is_to_all
 
-# In microseconds: the start bit's low time and total, a one, a zero, a slot (CEC 5.2.1, 5.2.2).
-START_LOW, START_TOTAL, ONE, ZERO, TOTAL = 3700, 4500, 600, 1500, 2400
-FREE = 7 * TOTAL
 SECOND = 1_000_000
 # A frame: the pause before it, what it says, and whether its last block reads as acknowledged (of a broadcast: as not refused).
 DIALOGUE = (
-    (FREE, "4f84100004", True),         # player 1 reports its address
-    (FREE, "8f84200004", True),         # player 2 reports its own
+    (PRESENT_INITIATOR, "4f84100004", True),         # player 1 reports its address
+    (PRESENT_INITIATOR, "8f84200004", True),         # player 2 reports its own
     (30_000_000, "40" "04", True),      # the film begins
-    (FREE, "4f821000", True),
+    (PRESENT_INITIATOR, "4f821000", True),
     (40_000, "0f80" "00001000", True),  # the television goes there
-    (FREE, "0446", True),               # and asks for a name
+    (PRESENT_INITIATOR, "0446", True),               # and asks for a name
     (24_000, "4047" "416c7068612d", True),
-    (FREE, "048f", True),               # for the power
+    (PRESENT_INITIATOR, "048f", True),               # for the power
     (31_000, "409000", True),
     (5_000_000, "0544" "41", True),     # louder
     (70_000, "0545", True),
-    (FREE, "0571", True),               # how loud is it?
+    (PRESENT_INITIATOR, "0571", True),               # how loud is it?
     (26_000, "507a" "32", True),
     (2_000_000, "0883", False),         # nobody answers at 8
-    (FREE, "0883", False),
+    (PRESENT_INITIATOR, "0883", False),
     (400_000, "0f36", True),            # all is off
 )
 
 
-def slots(frame, taken):
-    """How long the line is low in each slot. The last slot of the last block is a zero where a frame to one device is acknowledged, or a
-    frame to all refused."""
-    to_all = frame[0] % 16 == 15
-    lows = []
-    for at, block in enumerate(frame):
-        last = at + 1 == len(frame)
-        bits = [block >> place & 1 for place in range(7, -1, -1)] + [last]
-        answer = taken if last else True
-        lows += [ONE if bit else ZERO for bit in bits] + [ONE if answer == to_all else ZERO]
-    return lows
-
-
 def edges_of(dialogue, start=60_000):
-    """The edge file of a dialogue."""
+    """The edge file of a dialogue, whose last blocks alone may be otherwise acknowledged."""
     at, made = start, []
     for pause, text, taken in dialogue:
-        at += pause
-        lows, totals = [START_LOW], [START_TOTAL]
         frame = bytes.fromhex(text)
-        lows += slots(frame, taken)
-        totals += [TOTAL] * (10 * len(frame))
-        for low, total in zip(lows, totals):
-            made.append("%d 0\n%d 1\n" % (at, at + low))
-            at += total
-    return "".join(made) + "%d end\n" % (at + 30_000)
+        pulled = [answer != is_to_all(frame) for answer in [True] * (len(frame) - 1) + [taken]]
+        more, fall = Slots(frame, pulled).stretches(at + pause)
+        made, at = made + more, fall + PERIOD
+    return edge_file(made, at + 30_000)
 
 
 def without(place):
@@ -107,14 +87,9 @@ SAME = [
 ]
 
 
-def run(program, words, text):
-    ran = subprocess.run([program, *words], input=text.encode(), capture_output=True)
-    return ran.returncode, ran.stdout.decode(), ran.stderr.decode()
-
-
 def verdict(program, test, dialogue):
     """The status, and the lines of the report that do not hold. A fault in the test itself has status 1 and no report."""
-    status, report, fault = run(program, ["check", "--capture"], test + edges_of(dialogue))
+    report, fault, status = ran(program, ["check", "--capture"], test + edges_of(dialogue))
     lines = report.splitlines()
     if not lines or lines[0] != "TAP version 13":
         return "no report: %s" % fault.strip(), []
@@ -122,7 +97,7 @@ def verdict(program, test, dialogue):
 
 
 # A name of nine stars.
-STARRED = ((FREE, "0446", True), (24_000, "4047" + "2a" * 9, True), (FREE, "048f", True))
+STARRED = ((PRESENT_INITIATOR, "0446", True), (24_000, "4047" + "2a" * 9, True), (PRESENT_INITIATOR, "048f", True))
 
 
 # The rounds of examples/first-path.net, of which the television of a room without the player hears those of the player by its pin alone.
@@ -139,9 +114,9 @@ ROUNDS = """\
 def replayed(program):
     """Why a room does not meet the player again by what it drove (`mon --replay`): the rounds are those of the room that had it."""
     with open(os.path.join(TOP, "examples/first-path.net"), encoding="utf-8") as file:
-        line = run(program, ["run", "--edges"], file.read())[1]
-    pins = run(program, ["mon", "--replay", "4"], line)[1]
-    trace = run(program, ["run"], "device tv tv 4\nscript\n" + pins)[1]
+        line = ran(program, ["run", "--edges"], file.read())[0]
+    pins = ran(program, ["mon", "--replay", "4"], line)[0]
+    trace = ran(program, ["run"], "device tv tv 4\nscript\n" + pins)[0]
     rounds = "".join(it for it in trace.splitlines(True) if " complete " in it)
     return None if rounds == ROUNDS else "a replay: %s" % rounds
 
@@ -150,7 +125,7 @@ def main():
     passed, failed = 0, []
     assert len(MUTATIONS) == 20
     for program in programs():
-        status, test, fault = run(program, ["mon", "--as-test"], edges_of(DIALOGUE))
+        test, fault, status = ran(program, ["mon", "--as-test"], edges_of(DIALOGUE))
         if status or not test.endswith("\ncapture\n") or test.count("\n") != len(DIALOGUE) + 2 + ("expect no-remark" in test):
             failed.append("%s: status %s, %s\n%s" % (program, status, fault, test))
             continue
@@ -160,7 +135,7 @@ def main():
                 passed += 1
             else:
                 failed.append("%s: status %s, %s" % (name, status, missed))
-        starred = run(program, ["mon", "--as-test"], edges_of(STARRED))[1]
+        starred = ran(program, ["mon", "--as-test"], edges_of(STARRED))[0]
         status, missed = verdict(program, starred, STARRED)
         if status == 0 and not missed and starred.endswith("\ncapture\n"):
             passed += 1

@@ -119,7 +119,7 @@ def test_legal(tests, text, name):
 def test_says(tests, text, name):
     """A part of what is said. Nothing else changes with `--explain`: standard output, the status and the first line of the fault.
 
-    The numbers are those of docs/formats.md and of the standards' fields: of E-EDID they have 8, 10, 16 and 32 bits, a descriptor has 13
+    The numbers are those of docs/command-line.md, docs/run.md and of the standards' fields: of E-EDID they have 8, 10, 16 and 32 bits, a descriptor has 13
     characters (3.10.3), and the length of a data block five bits (CTA-861-D, 7.5), of which an HDMI block uses 5 bytes for its number
     and the address."""
     if "\n--\n" in text:

@@ -3,30 +3,25 @@
 open, which no test of `rt ci` can. PROGRAM is crates/hdminet/out/hdminet, which ./hdminet builds, where none is given. The last line
 is 'follow: N passed, M failed'."""
 import json
-import os
 import random
 import select
 import subprocess
 import sys
 
-TOP = os.path.dirname(os.path.dirname(os.path.realpath(__file__)))
-PROGRAM = os.path.realpath(sys.argv[1]) if len(sys.argv) > 1 else os.path.join(TOP, 'crates/hdminet/out/hdminet')
+from built import program, tests_told
+from line_maker import Slots
+
+PROGRAM = program()
 NAMES = 'Time [s],CEC\n' + '5.000000,1\n'
 HEAD = '# cec-ctl --store-pin\n# version 1\n# start_monotonic 100.000000000\n# start_timeofday 0.000000\n# log_addr_mask 0x0000\n# phys_addr f.f.f.f\n'
-BITS = {0: 1500, 1: 600}
 MEGABYTE = 1024
 
 
 def edges_of(blocks, begin):
     """The edges of a message: (instant, level), by the nominal times of the standard. Each block is a byte, its end of message and
     how it is acknowledged."""
-    edges = [(begin, 0), (begin + 3700, 1)]
-    at = begin + 4500
-    for byte, last, ack in blocks:
-        for bit in [byte >> i & 1 for i in range(7, -1, -1)] + [last, ack]:
-            edges += [(at, 0), (at + BITS[bit], 1)]
-            at += 2400
-    return edges
+    slots = Slots([byte for byte, _, _ in blocks], [not ack for _, _, ack in blocks], True, {place: last for place, (_, last, _) in enumerate(blocks)})
+    return [edge for fall, rise in slots.stretches(begin)[0] for edge in ((fall, 0), (rise, 1))]
 
 
 def pin_line(at, level):
@@ -354,14 +349,7 @@ def is_small(flags):
 
 
 def main():
-    failed = 0
-    tests = [reads_edges_at_once, reads_pins_at_once, reads_rows_at_once, remarks_at_once, objects_at_once, waits_for_the_shortest_pulse, turns_levels, waits_until_the_line_is_idle, folds_bad_starts, is_text_of_the_whole, has_faults, fails_to_write, takes_no_memory]
-    for test in tests:
-        right = test()
-        failed += not right
-        print('follow: %s: %s' % (test.__name__, 'passed' if right else 'failed'))
-    print('follow: %d passed, %d failed' % (len(tests) - failed, failed))
-    sys.exit(1 if failed else 0)
+    sys.exit(tests_told('follow', [reads_edges_at_once, reads_pins_at_once, reads_rows_at_once, remarks_at_once, objects_at_once, waits_for_the_shortest_pulse, turns_levels, waits_until_the_line_is_idle, folds_bad_starts, is_text_of_the_whole, has_faults, fails_to_write, takes_no_memory]))
 
 
 if __name__ == '__main__':

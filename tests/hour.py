@@ -11,11 +11,11 @@ import importlib.util
 import os
 import random
 import shutil
-import subprocess
 import sys
 
-TOP = os.path.dirname(os.path.dirname(os.path.realpath(__file__)))
-PROGRAM = os.path.realpath(sys.argv[1]) if len(sys.argv) > 1 else os.path.join(TOP, 'crates/hdminet/out/hdminet')
+from built import TOP, Count, program, ran
+
+PROGRAM = program()
 SEED = int(sys.argv[2]) if len(sys.argv) > 2 else 1
 # microseconds
 HOUR = 3_600_000_000
@@ -66,8 +66,7 @@ def script(rng):
 
 
 def output(words, text):
-    done = subprocess.run([PROGRAM, *words], input=text.encode(), stdout=subprocess.PIPE, stderr=subprocess.PIPE, check=False)
-    return done.stdout.decode(), done.stderr.decode(), done.returncode
+    return ran(PROGRAM, words, text)
 
 
 def stretches(edges):
@@ -136,19 +135,6 @@ def readings(text):
     return complete, [line for line in lines if ' complete ' not in line]
 
 
-class Count:
-    """how many passed, and how many failed"""
-
-    def __init__(self):
-        self.passed = self.failed = 0
-
-    def note(self, what, is_right):
-        self.passed += bool(is_right)
-        self.failed += not is_right
-        if not is_right:
-            print('hour: ' + what)
-
-
 def ask_others(count, lows):
     """cec-ctl and sigrok-cli read the same frames of the first minutes, where they are installed; sigrok-cli takes its time"""
     tools = compared()
@@ -163,7 +149,7 @@ def ask_others(count, lows):
 
 
 def main():
-    rng, count = random.Random(SEED), Count()
+    rng, count = random.Random(SEED), Count('hour')
     net = script(rng)
     trace, said, status = output(['run'], net)
     count.note('the room is not run: ' + said, status == 0)
@@ -187,9 +173,8 @@ def main():
     broken_rules = [line for line in told.splitlines() if line.split()[0] in ('fault', 'note')]
     count.note('a report: status %d, %s' % (status, said.strip() or broken_rules[:3]), status == 0 and not broken_rules)
     ask_others(count, lows)
-    print('hour: %d passed, %d failed' % (count.passed, count.failed))
-    sys.exit(1 if count.failed else 0)
+    return count.told()
 
 
 if __name__ == '__main__':
-    main()
+    sys.exit(main())

@@ -7,11 +7,9 @@ what is wrong has the remark of docs/mon.md ("Audit of a capture") that is due, 
 
 PROGRAM is crates/hdminet/out/hdminet, and what Rattle's own compiler makes of the same sources, hdminet.by-rattle beside it, where none
 is given. The last line is 'illegal lines: N passed, M failed', and the status is 0 where M is 0."""
-import json
-import subprocess
 import sys
 
-from built import rows_told
+from built import objects, rows_told
 from line_maker import NEW_INITIATOR, PERIOD, PRESENT_INITIATOR, RETRY, SAMPLE, Slots, edge_file, over
 
 # So long the line is idle before and after what is wrong, in microseconds.
@@ -313,8 +311,7 @@ CLAUSES = (start_bits, bits, acknowledges, breaks, glitches, two_at_once, blocks
 
 def said(program, text):
     """what an audit says, as objects, and its status"""
-    ran = subprocess.run([program, 'mon', '--audit', '--strict', '--json', '--from', 'edges'], input=text.encode(), capture_output=True, check=False)
-    return [json.loads(it) for it in ran.stdout.decode().splitlines()], ran.returncode
+    return objects(program, ['mon', '--audit', '--strict', '--json', '--from', 'edges'], text)
 
 
 def is_as_due(found, due):

@@ -4,29 +4,12 @@
 # library, is left out, and named. The last line is
 # 'installed: N passed, M failed'.
 set -u
-top=$(cd "$(dirname "${BASH_SOURCE[0]}")/.." && pwd)
-room=$(mktemp -d)
-trap 'rm -rf "$room"' EXIT
+tests=installed
+source "$(dirname "${BASH_SOURCE[0]}")/counted.bash"
 dir=$room/else\ where
 mkdir "$room/home" "$room/elsewhere"
 # Shells write nothing into the home of who runs this.
 export HOME=$room/home XDG_CONFIG_HOME=$room/home XDG_DATA_HOME=$room/home XDG_CACHE_HOME=$room/home TERM=dumb
-passed=0
-failed=0
-
-# Counts a test: a name, and a condition that held.
-check() {
-  local name=$1
-  shift
-  if "$@"; then
-    passed=$((passed + 1))
-  else
-    failed=$((failed + 1))
-    echo "installed: failed: $name"
-    sed 's/^/  out: /' "$room/out"
-    sed 's/^/  err: /' "$room/err"
-  fi
-}
 
 # Runs a command from a folder that is neither the checkout nor the one installed into.
 start() {
@@ -375,5 +358,4 @@ check "and names each, and its links" [ "$(grep -c '^install: removed ' "$room/o
 start "$top/tools/install" --remove "$dir"
 check "and says where there is nothing" wrote "install: nothing of hdminet is in $dir"
 
-echo "installed: $passed passed, $failed failed"
-[ "$failed" = 0 ]
+end

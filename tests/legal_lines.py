@@ -13,12 +13,10 @@ Of a line `mon --audit` reads the frames that were sent, each bit of them, and h
 `mid-frame` where the line begins within a frame; and `mon --report` has no fault and no note of what a device says. PROGRAM is crates/hdminet/out/hdminet, and what Rattle's own compiler makes of the same
 sources, hdminet.by-rattle beside it, where none is given; all but the first take each tenth line. A program without `--verdict` is asked
 for no verdict and no report. The last line is 'legal lines: N passed, M failed', and the status is 0 where M is 0."""
-import json
 import random
-import subprocess
 import sys
 
-from built import programs, told
+from built import objects, programs, ran, told
 from line_maker import NEW_INITIATOR, PRESENT_INITIATOR, RETRY, SAMPLE, Slots, WINDOWS, edge_file, is_to_all, middle, over
 
 LINES, FRAMES = 40, 2_600
@@ -268,15 +266,9 @@ def line_of(number):
     return talk, end
 
 
-def objects(program, flags, text):
-    """the objects that `mon` writes, and the status"""
-    ran = subprocess.run([program, 'mon', '--json', *flags], input=text.encode(), capture_output=True, check=False)
-    return [json.loads(it) for it in ran.stdout.decode().splitlines()], ran.returncode
-
-
 def fault_of(program, number, talk, text, has_verdict):
     """what is not as it should be, or nothing"""
-    told_of, status = objects(program, ['--from', 'edges', '--audit', '--strict'], text)
+    told_of, status = objects(program, ['mon', '--json', '--from', 'edges', '--audit', '--strict'], text)
     remarks = [it['line'].strip() for it in told_of if it['type'] == 'remark']
     if status or remarks:
         return 'status %d, %d remarks: %s' % (status, len(remarks), '; '.join(remarks[:3]))
@@ -286,10 +278,10 @@ def fault_of(program, number, talk, text, has_verdict):
         return '%d frames are read, and not %d; frame %d differs: %s' % (len(read), len(talk.sent), differs, (read + [None])[differs])
     if has_verdict:
         word = 'mid-frame' if number % 3 == 2 else 'fine'
-        (verdict,), _ = objects(program, ['--from', 'edges', '--verdict'], text)
+        (verdict,), _ = objects(program, ['mon', '--json', '--from', 'edges', '--verdict'], text)
         if verdict['word'] != word:
             return 'no verdict %s: %s' % (word, verdict['line'])
-        told_of, status = objects(program, ['--from', 'edges', '--report', '--strict'], text)
+        told_of, status = objects(program, ['mon', '--json', '--from', 'edges', '--report', '--strict'], text)
         broken = [it['line'].strip() for it in told_of if it['type'] == 'content']
         if status or broken:
             return 'status %d of a report: %s' % (status, '; '.join(broken[:3]))
@@ -299,7 +291,7 @@ def fault_of(program, number, talk, text, has_verdict):
 def main():
     passed, failed, frames = 0, [], 0
     runs = programs()
-    has_verdict = {it: b'--verdict' in subprocess.run([it, 'mon', '--help'], capture_output=True, check=False).stdout for it in runs}
+    has_verdict = {it: '--verdict' in ran(it, ['mon', '--help'], '')[0] for it in runs}
     for number in range(LINES):
         talk, end = line_of(number)
         text = edge_file(talk.stretches, end)

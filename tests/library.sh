@@ -9,23 +9,15 @@
 # 'qemu-aarch64 -L /usr/aarch64-linux-gnu' for CC=aarch64-linux-gnu-gcc; nothing is called from Python then.
 # $HDMINET_FRAMES is how many random frames are taken, $HDMINET_SESSIONS how many random sessions, $HDMINET_KINDS which kinds of device a pin in Python is tested as.
 set -u
-top=$(cd "$(dirname "${BASH_SOURCE[0]}")/.." && pwd)
-room=$(mktemp -d)
-trap 'rm -rf "$room"' EXIT
-passed=0
-failed=0
+tests=library
+source "$(dirname "${BASH_SOURCE[0]}")/counted.bash"
 count=${HDMINET_FRAMES:-200000}
 cc=${CC:-cc}
 run=${HDMINET_RUN:-}
 kinds=${HDMINET_KINDS:-tv switch}
 
-line() {
-  local what=$1
-  shift
-  if "$@" > "$room/log" 2>&1; then passed=$((passed + 1)); else failed=$((failed + 1)); echo "library: failed: $what"; tail -n 20 "$room/log"; fi
-  # The figures that it prints.
-  grep -E '(each|bytes|of stack)$' "$room/log"
-}
+# A line of the test, and the figures that its command prints.
+figures() { line "$@"; grep -E '(each|bytes|of stack)$' "$room/log"; }
 
 compiles() { $cc -std=c11 -Wall -Wextra -Werror -fsyntax-only -I "$top/include" "$1"; }
 
@@ -360,16 +352,16 @@ elif [ $# -ge 1 ]; then
   line "what libhdminet_wire.a gives and asks for" wire_names
   line "what libhdminet.a and libhdminet.so give and ask for" all_names
   line "library.c links" link library -lhdminet_wire "$top/tests/library.c"
-  line "library.c" $run "$room/library" "$top/examples/living-room.edid" "$top/examples/living-room.edid.txt" "$count" "$room/texts" "$room/dumps"
+  figures "library.c" $run "$room/library" "$top/examples/living-room.edid" "$top/examples/living-room.edid.txt" "$count" "$room/texts" "$room/dumps"
   line "library-run.c links" link library-run -lhdminet "$top/tests/library-run.c" -Wl,--wrap={malloc,realloc}
   line "library-run.c" $run "$room/library-run" "$top"/examples/lg-oled55b6v.{edid,edid.txt,findings,meaning}
   line "library-live.c links" link library-live -lhdminet "$top/tests/library-live.c" -Wl,--wrap={malloc,realloc}
   line "library-live.c" $run "$room/library-live"
   [ -n "$run" ] || ! command -v valgrind > /dev/null || line "library-live.c under valgrind" is_clean
   line "library-stack.c links" link library-stack -lhdminet "$top/tests/library-stack.c"
-  line "library-stack.c" $run "$room/library-stack" "$top/examples/living-room.edid"
+  figures "library-stack.c" $run "$room/library-stack" "$top/examples/living-room.edid"
   line "receiver.c links" link receiver -lhdminet_wire "$top/examples/c/receiver.c"
-  line "its size" small
+  figures "its size" small
   line "receiver.c on capture.edges" writes "$top/examples/capture.readings" $run "$room/receiver" < "$top/examples/capture.edges"
   if has_pins; then
     line "gpio.c links" link gpio -lhdminet_wire "$top/examples/c/gpio.c" "$top/tests/library-gpio.c" -Wl,--wrap={open,ioctl,poll,read,clock_gettime}
@@ -385,7 +377,7 @@ elif [ $# -ge 1 ]; then
   done
   if [ -z "$run" ]; then
     line "by pkg-config" packaged
-    line "library.py" env HDMINET_RECEIVER="$room/receiver" PYTHONPATH="$at/python" HDMINET_LIBRARY="$at/lib/libhdminet.so" \
+    figures "library.py" env HDMINET_RECEIVER="$room/receiver" PYTHONPATH="$at/python" HDMINET_LIBRARY="$at/lib/libhdminet.so" \
       python3 "$top/tests/library.py" "$top" "$count" "$program"
     line "watch.py" writes "$top/examples/capture.readings" env PYTHONPATH="$at/python" python3 "$top/examples/python/watch.py" < "$top/examples/capture.edges"
   fi
@@ -415,5 +407,4 @@ elif [ $# -ge 1 ]; then
     for test in "$top"/examples/*.test; do line "the program's report of $(basename "$test")" writes_as_program "$test" check check; done
   fi
 fi
-echo "library: $passed passed, $failed failed"
-[ "$failed" = 0 ]
+end

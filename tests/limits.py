@@ -2,18 +2,17 @@
 """tests/limits.py [PROGRAM]: inputs as long as the documents allow, none of which is refused for want of memory.
 
 No contract says how much memory a call takes, so a call that gives up early, as past 1,000,000 edges of a capture, meets all of
-its clauses (docs/proved.md, Memory). Each call here has the greatest input that docs/formats.md allows: five million edges in
+its clauses (docs/proved.md, Memory). Each call here has the greatest input that the pages of docs/formats.md allow: five million edges in
 64 MiB of a capture, 16,384 pulls, 1,000,000 instants of a sweep, 1 MiB of steps, of frames in hex, of frames as words, and of frames
 to lay. It ends with status 0, says nothing on standard error, and writes as many lines as the input asks for; the first and the
 last are worked out by hand. An input of one byte or one item more is refused by name. PROGRAM is crates/hdminet/out/hdminet, which
 ./hdminet builds, where none is given. The last line is 'limits: N passed, M failed', and the status is 0 where M is 0."""
-import os
-import subprocess
 import sys
 import time
 
-TOP = os.path.dirname(os.path.dirname(os.path.realpath(__file__)))
-PROGRAM = os.path.realpath(sys.argv[1]) if len(sys.argv) > 1 else os.path.join(TOP, 'crates/hdminet/out/hdminet')
+from built import Count, program, ran
+
+PROGRAM = program()
 EDGES, LONGEST_CAPTURE = 5_000_000, 67_108_864
 PULLS, PULSES = 16_384, 4_096
 INSTANTS = 1_000_000
@@ -27,21 +26,11 @@ POLL_EACH = 36_000
 
 
 def output(words, text):
-    done = subprocess.run([PROGRAM, *words], input=text.encode(), stdout=subprocess.PIPE, stderr=subprocess.PIPE, check=False)
-    return done.stdout.decode(), done.stderr.decode(), done.returncode
+    return ran(PROGRAM, words, text)
 
 
-class Count:
-    """how many passed, and how many failed"""
-
-    def __init__(self):
-        self.passed = self.failed = 0
-
-    def note(self, what, is_right):
-        self.passed += bool(is_right)
-        self.failed += not is_right
-        if not is_right:
-            print('limits: ' + what)
+class Limits(Count):
+    """inputs that are taken, and that are refused"""
 
     def taken(self, what, words, text, count, first, last):
         """the input is taken, and gives so many lines"""
@@ -147,15 +136,14 @@ def frames(count):
 
 
 def main():
-    count = Count()
+    count = Limits('limits')
     captures(count)
     runs(count)
     sweeps(count)
     steps(count)
     frames(count)
-    print('limits: %d passed, %d failed' % (count.passed, count.failed))
-    sys.exit(1 if count.failed else 0)
+    return count.told()
 
 
 if __name__ == '__main__':
-    main()
+    sys.exit(main())

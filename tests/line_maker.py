@@ -9,6 +9,10 @@ WINDOWS = {'start': (3_500, 3_900), 'start total': (4_300, 4_700), 'one': (400, 
 NOMINAL = {'start': 3_700, 'start total': 4_500, 'one': 600, 'zero': 1_500, 'total': 2_400}
 # A slot is sampled so long after its fall (CEC 5.2.3), which ends the reading of a frame.
 SAMPLE = 1_050
+# Messages to one device and to all, of one block of operands and of several.
+MESSAGES = [bytes.fromhex(it) for it in (
+    '4004', '4f821100', '404742442d50', '5f7201', '507a14', '4f84110004', '044441', '0445', '40004404', '0f8010002000', '0f32656e67',
+    '409000', '547e01')]
 
 
 def middle(kind):

@@ -10,8 +10,9 @@ import subprocess
 import sys
 import tempfile
 
-TOP = os.path.dirname(os.path.dirname(os.path.realpath(__file__)))
-PROGRAM = os.path.realpath(sys.argv[1]) if len(sys.argv) > 1 else os.path.join(TOP, 'crates/hdminet/out/hdminet')
+from built import TOP, program, tests_told
+
+PROGRAM = program()
 ROOM = 'device tv tv 4\ndevice p1 player 0\nplug p1 tv 1\nscript\n'
 SEAT = 'device tv tv 2\ndevice p1 player 0\ndevice dut outside 0\nplug p1 tv 1\nplug dut tv 2\nscript\n'
 OWN = ('run', 'wait', 'show', 'edge', 'edges', 'seats')
@@ -426,15 +427,7 @@ def main():
     if not os.access(PROGRAM, os.X_OK):
         sys.exit('live: no program at %s: ./hdminet --prove builds it' % PROGRAM)
     signal.alarm(600)
-    passed = failed = 0
-    for test in [answers_at_once, ends_early, has_faults, closed, objects, objects_closed, rooms_cut, rooms_by_edges, pulses_let_go, five_thousand_pulses, edge_by_edge, held_at_random, pin_by_levels, driver, device_under_test, television_under_test, claimed_twice, sent_together, shell, drivers_stop]:
-        if test():
-            passed += 1
-        else:
-            failed += 1
-            print('live: failed: %s' % test.__name__)
-    print('live: %d passed, %d failed' % (passed, failed))
-    sys.exit(failed > 0)
+    sys.exit(tests_told('live', [answers_at_once, ends_early, has_faults, closed, objects, objects_closed, rooms_cut, rooms_by_edges, pulses_let_go, five_thousand_pulses, edge_by_edge, held_at_random, pin_by_levels, driver, device_under_test, television_under_test, claimed_twice, sent_together, shell, drivers_stop]))
 
 
 if __name__ == '__main__':

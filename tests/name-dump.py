@@ -11,8 +11,9 @@ import subprocess
 import sys
 import tempfile
 
-TOP = os.path.dirname(os.path.dirname(os.path.realpath(__file__)))
-PROGRAM = sys.argv[1] if len(sys.argv) > 1 else os.path.join(TOP, 'crates/hdminet/out/hdminet')
+from built import TOP, Count, program
+
+PROGRAM = program()
 if not os.path.exists(PROGRAM):
     PROGRAM = os.path.join(TOP, 'release/hdminet')
 # The identifiers of the two wires; the others are `!` and letters.
@@ -33,14 +34,7 @@ end 3000000
 # What the two wires of that room have from 1,000,000 on, by the trace: `1000000 1006500 short 0`, the frame again at 1017300, the
 # key's second frame, and the pulse alone.
 BROKEN_FRAMES = ['short 0', '', '4>0 image-view-on ack', '', '4>f active-source 1.0.0.0 ok', '', 'bad-start -', '']
-passed, failed = 0, 0
-
-
-def check(what, is_well):
-    global passed, failed
-    passed, failed = passed + is_well, failed + (not is_well)
-    if not is_well:
-        print('name-dump: failed: %s' % what)
+COUNT = Count('name-dump')
 
 
 def run(words, given=None):
@@ -143,8 +137,8 @@ def try_room(name, room):
     plain = run([PROGRAM, 'run', '--edges', '--as', 'vcd', '--drives'], room)
     told = run([PROGRAM, 'run', '--edges', '--as', 'vcd', '--drives', '--named'], room)
     changes = changes_of(plain.splitlines(), run([PROGRAM, 'run', '--json'], room).splitlines())
-    check('%s: its text' % name, told.splitlines() == named(plain.splitlines(), changes))
-    check('%s: what is read of it' % name, run([PROGRAM, 'mon', '--signal', 'CEC'], told.encode()) == run([PROGRAM, 'mon', '--signal', 'CEC'], plain.encode()))
+    COUNT.note('%s: its text' % name, told.splitlines() == named(plain.splitlines(), changes))
+    COUNT.note('%s: what is read of it' % name, run([PROGRAM, 'mon', '--signal', 'CEC'], told.encode()) == run([PROGRAM, 'mon', '--signal', 'CEC'], plain.encode()))
     if shutil.which('vcd2fst') and shutil.which('fst2vcd'):
         with tempfile.TemporaryDirectory() as folder:
             vcd, fst = os.path.join(folder, 'named.vcd'), os.path.join(folder, 'named.fst')
@@ -153,7 +147,7 @@ def try_room(name, room):
             subprocess.run(['vcd2fst', vcd, fst], check=True, stdout=subprocess.DEVNULL)
             again = run(['fst2vcd', fst]).replace('\\040', '\\x20').replace('\\"', '"')
             texts = sorted(line.rsplit(' ', 1)[0] for line in again.splitlines() if line.startswith('s'))
-            check("%s: GTKWave's reader" % name, texts == sorted(line.rsplit(' ', 1)[0] for line in told.splitlines() if line.startswith('s')))
+            COUNT.note("%s: GTKWave's reader" % name, texts == sorted(line.rsplit(' ', 1)[0] for line in told.splitlines() if line.startswith('s')))
     return frames_of(told)
 
 
@@ -172,6 +166,5 @@ for path in sorted(glob.glob(os.path.join(TOP, 'examples/*.net'))):
     with open(path, 'rb') as it:
         try_room(os.path.basename(path), it.read())
 found = [text for at, text in try_room('a room with pulses', BROKEN.encode()) if at >= 1000000]
-check('what pulses break', found == BROKEN_FRAMES)
-print('name-dump: %d passed, %d failed' % (passed, failed))
-sys.exit(failed > 0)
+COUNT.note('what pulses break', found == BROKEN_FRAMES)
+sys.exit(COUNT.told())

@@ -3,18 +3,9 @@
 # module, its plugin of pytest, reports of JUnit's form, and with a type checker its types. What is not here, venv, pytest or mypy, is
 # left out, and named. $PYTHON is the Python, one that has pytest where there is one. The last line is 'package: N passed, M failed'.
 set -u
-top=$(cd "$(dirname "${BASH_SOURCE[0]}")/.." && pwd)
-room=$(mktemp -d)
-trap 'rm -rf "$room"' EXIT
-passed=0
-failed=0
+tests=package
+source "$(dirname "${BASH_SOURCE[0]}")/counted.bash"
 
-line() {
-  local what=$1
-  shift
-  if "$@" > "$room/log" 2>&1; then passed=$((passed + 1)); else failed=$((failed + 1)); echo "package: failed: $what"; tail -n 20 "$room/log"; fi
-}
-end() { echo "package: $passed passed, $failed failed"; [ "$failed" = 0 ]; exit; }
 # What a command writes, and its status.
 gives() { local status=$1; shift; "$@" > "$room/out" 2> "$room/err"; [ $? = "$status" ] || { cat "$room/out" "$room/err"; return 1; }; }
 has() { grep -qxF -- "$1" "$room/out" || { cat "$room/out"; return 1; }; }

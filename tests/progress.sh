@@ -3,19 +3,10 @@
 # status are those without the flag. PROGRAM is crates/hdminet/out/hdminet where none is given, as `rt ci` builds it. The last line is
 # 'progress: N passed, M failed'.
 set -u
-top=$(dirname "$(dirname "$(readlink -f "${BASH_SOURCE[0]}")")")
+tests=progress
+source "$(dirname "${BASH_SOURCE[0]}")/counted.bash"
 program=${1:-$top/crates/hdminet/out/hdminet}
 [ -x "$program" ] || { echo "progress: no program at $program" >&2; exit 2; }
-room=$(mktemp -d)
-trap 'rm -rf "$room"' EXIT
-passed=0
-failed=0
-
-check() {
-  local what=$1
-  shift
-  if "$@"; then passed=$((passed + 1)); else failed=$((failed + 1)); echo "progress: $what: failed"; fi
-}
 
 # A test whose key is pressed in each microsecond from 5000000 on, so many later at most: the frame begins as the key is pressed, and
 # its last acknowledge is sampled 4500 + 19 * 2400 + 1050 later, so the expectation holds up to 5001500.
@@ -33,12 +24,12 @@ says() {
   [ $? = "$status" ] && [ "$quiet" = "$status" ] && cmp -s "$room/plain" "$room/out" && [ "$(grep 'instants' "$room/err")" = "$due" ]
 }
 
-line() { echo "hdminet: instants $1 of $2, stretches $3"; }
+told() { echo "hdminet: instants $1 of $2, stretches $3"; }
 
 swept 3200 > "$room/test"
-check "after each thousand instants" says 1 "$(line 1000 3201 1; line 2000 3201 2; line 3000 3201 2)"
+check "after each thousand instants" says 1 "$(told 1000 3201 1; told 2000 3201 2; told 3000 3201 2)"
 swept 1000 > "$room/test"
-check "as long as there are more" says 0 "$(line 1000 1001 1)"
+check "as long as there are more" says 0 "$(told 1000 1001 1)"
 swept 999 > "$room/test"
 check "a thousand and no more" says 0 ""
 
@@ -51,5 +42,4 @@ goes_on() {
 swept 3200 > "$room/test"
 check "where standard error is full" goes_on
 
-echo "progress: $passed passed, $failed failed"
-[ "$failed" = 0 ]
+end

@@ -3,11 +3,8 @@
 # kit of the toolchain whose words the stand-in takes, 13b or 13f; with none all is tested with each of them. The last line is
 # 'start script: N passed, M failed'.
 set -u
-top=$(cd "$(dirname "${BASH_SOURCE[0]}")/.." && pwd)
-room=$(mktemp -d)
-trap 'rm -rf "$room"' EXIT
-passed=0
-failed=0
+tests="start script"
+source "$(dirname "${BASH_SOURCE[0]}")/counted.bash"
 if [ $# = 0 ]; then
   "$top/tests/start-script.sh" 13b > "$room/13b" &
   "$top/tests/start-script.sh" 13f > "$room/13f"
@@ -20,9 +17,7 @@ if [ $# = 0 ]; then
     passed=$((passed + well))
     failed=$((failed + badly))
   done
-  echo "start script: $passed passed, $failed failed"
-  [ "$failed" = 0 ]
-  exit
+  end
 fi
 
 # A stand-in for rt. It refuses sources that have the word 'broken', notes its calls, and links a program that prints its
@@ -145,20 +140,7 @@ released() {
   rm -rf "$room/checkout"/crates/*/out "$CALLS"
 }
 
-# Counts a test: a name, and a condition that held.
-check() {
-  local name=$1
-  shift
-  if "$@"; then
-    passed=$((passed + 1))
-  else
-    failed=$((failed + 1))
-    echo "start script: kit $KIT: failed: $name (status $status)"
-    sed 's/^/  out: /' "$room/out"
-    sed 's/^/  err: /' "$room/err"
-  fi
-}
-
+fails() { failed=$((failed + 1)); echo "start script: kit $KIT: failed: $1"; }
 wrote() { [ "$status" = 0 ] && [ "$(cat "$room/out")" = "$1" ]; }
 # Refused with status 2 and nothing on standard output, and standard error has this text.
 refused() { [ "$status" = 2 ] && [ ! -s "$room/out" ] && grep -qF -- "$1" "$room/err"; }
@@ -511,5 +493,4 @@ rm "$REFUSING"
 start "$room/checkout/hdminet" x
 check "once rt takes them it is built" wrote "one x"
 
-echo "start script: $passed passed, $failed failed"
-[ "$failed" = 0 ]
+end

@@ -10,7 +10,8 @@ import sys
 import tempfile
 from concurrent.futures import ProcessPoolExecutor
 
-TOP = os.path.dirname(os.path.dirname(os.path.realpath(__file__)))
+from built import TOP, tests_told
+
 sys.dont_write_bytecode = True
 sys.path.insert(0, os.path.join(TOP, "tests/suite"))
 sys.path.insert(0, os.path.join(TOP, "examples/suite"))
@@ -19,6 +20,7 @@ from bitbanged import FAULTS, BitBanged, Timing  # noqa: E402
 from faulty import SLIPS  # noqa: E402
 import faulty_features  # noqa: E402
 import faulty_messages  # noqa: E402, F401
+import faulty_opcodes  # noqa: E402, F401
 import faulty_televisions  # noqa: E402, F401
 from dut import Dut  # noqa: E402
 from emulated import Emulated  # noqa: E402
@@ -729,16 +731,8 @@ def main():
     if not os.access(PROGRAM, os.X_OK):
         sys.exit("suite: no program at %s" % PROGRAM)
     signal.alarm(900)
-    passed = failed = 0
     with ProcessPoolExecutor(min(4, os.cpu_count() or 2)) as pool:
-        for test in WHAT:
-            if test(pool):
-                passed += 1
-            else:
-                failed += 1
-                print("suite: failed: %s" % test.__name__)
-    print("suite: %d passed, %d failed" % (passed, failed))
-    sys.exit(failed > 0)
+        sys.exit(tests_told("suite", WHAT, pool))
 
 
 if __name__ == "__main__":

@@ -3,19 +3,10 @@
 # slip each (tests/suite.py), over a pin where there is a C compiler, and by `prove` where there is one. The last line is
 # 'suite: N passed, M failed'.
 set -u
-top=$(cd "$(dirname "${BASH_SOURCE[0]}")/.." && pwd)
+tests=suite
+source "$(dirname "${BASH_SOURCE[0]}")/counted.bash"
 program=$(readlink -f "${1:-$top/crates/hdminet/out/hdminet}")
 [ -x "$program" ] || { echo "suite: no program at $program: ./hdminet --prove builds it" >&2; exit 2; }
-room=$(mktemp -d)
-trap 'rm -rf "$room"' EXIT
-passed=0
-failed=0
-
-line() {
-  local what=$1
-  shift
-  if "$@" > "$room/log" 2>&1; then passed=$((passed + 1)); else failed=$((failed + 1)); echo "suite: failed: $what"; tail -n 40 "$room/log"; fi
-}
 
 # The recipe of docs/suite.md for servers of tests: a test that holds, one that is skipped, and one that fails.
 proved() {
@@ -35,5 +26,4 @@ by_pin() {
 line "the devices" "$top/tests/suite.py" "$program"
 [ ! -f "$top/release/lib/libhdminet_wire.a" ] || ! command -v cc > /dev/null || line "a pin in C" by_pin
 ! command -v prove > /dev/null || line "by prove" proved
-echo "suite: $passed passed, $failed failed"
-[ "$failed" = 0 ]
+end

@@ -10,41 +10,28 @@ PROGRAM is crates/hdminet/out/hdminet, and what Rattle's own compiler makes of t
 is given. The last line is 'verdicts: N passed, M failed', and the status is 0 where M is 0."""
 import json
 import random
-import subprocess
 import sys
 
-from built import programs, told
+from built import programs, ran, told
+from line_maker import MESSAGES, PERIOD, PRESENT_INITIATOR, WINDOWS, Slots, is_to_all
 
 EACH, FRAMES = 20, 12
-# In microseconds, within the windows of CEC 5.2.1 and 5.2.2: the start bit's low time and total, a one, a zero, a slot.
-WIDTHS = {"start": (3500, 3900), "start total": (4300, 4700), 1: (400, 800), 0: (1300, 1700), "total": (2050, 2750)}
-MESSAGES = [bytes.fromhex(it) for it in (
-    "4004", "4f821100", "404742442d50", "5f7201", "507a14", "4f84110004", "044441", "0445", "40004404", "0f8010002000", "0f32656e67",
-    "409000", "547e01", "44")]
-
-
-def bits_of(frame):
-    """The bits of a frame, with EOM and the acknowledge: a zero of the follower, of a broadcast a one; a poll is left alone."""
-    taken = 1 if frame[0] % 16 == 15 or len(frame) == 1 else 0
-    for at, block in enumerate(frame):
-        yield from (block >> place & 1 for place in range(7, -1, -1))
-        yield from (int(at + 1 == len(frame)), taken)
+# The messages, and a poll that nobody takes.
+SAID = MESSAGES + [b"\x44"]
 
 
 def legal(drawn, narrow=False):
     """The stretches of a line, and its end. A narrow one has the standard's nominal widths, a few microseconds off."""
     def width(kind):
-        least, most = WIDTHS[kind]
+        least, most = WINDOWS[kind]
         middle = (least + most) // 2
         return drawn.randint(middle - 20, middle + 20) if narrow else drawn.randint(least, most)
     at, made = 60_000, []
     for _ in range(FRAMES):
-        made.append((at, at + width("start")))
-        at += width("start total")
-        for bit in bits_of(drawn.choice(MESSAGES)):
-            made.append((at, at + width(bit)))
-            at += width("total")
-        at += 7 * 2400 + drawn.randint(0, 20_000)
+        frame = drawn.choice(SAID)
+        more, fall = Slots(frame, [not is_to_all(frame) and len(frame) > 1] * len(frame)).stretches(at, width)
+        made += more
+        at = fall + PERIOD + PRESENT_INITIATOR + drawn.randint(0, 20_000)
     return made, at + 30_000
 
 
@@ -138,7 +125,7 @@ def cases(number):
 
 
 def run(program, flags, text):
-    return subprocess.run([program, "mon", *flags], input=text.encode(), capture_output=True).stdout.decode()
+    return ran(program, ["mon", *flags], text)[0]
 
 
 def complete(program, flags, text):

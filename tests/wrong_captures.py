@@ -11,10 +11,9 @@ is given. The last line is 'wrong captures: N passed, M failed', and the status 
 import collections
 import json
 import random
-import subprocess
 import sys
 
-from built import rows_told
+from built import ran, rows_told
 from line_maker import PRESENT_INITIATOR, Slots, WINDOWS, middle
 
 # Frames that ask for no answer; each broken one of fourteen counts for less than a tenth, and two of them for more.
@@ -299,7 +298,7 @@ KINDS = (silent, right, within_a_frame, levels_turned, short_pulses, other_units
 
 
 def run(program, flags, text):
-    return subprocess.run([program, 'mon', *flags], input=text.encode(), capture_output=True, check=False).stdout.decode()
+    return ran(program, ['mon', *flags], text)[0]
 
 
 def complete(program, flags, text):

@@ -1,5 +1,6 @@
 """Devices with one slip each, which the tests of suite/ have to see. `SLIPS` has them by name, with their kind. Here stand those
-that err in times, addresses, refusals and frames, in faulty_televisions.py televisions, and in faulty_features.py the others.
+that err in times, addresses, refusals and frames, in faulty_opcodes.py those that leave out one message, in faulty_televisions.py
+televisions, and in faulty_features.py and faulty_messages.py the others.
 
 Each is the device of examples/suite/reference.py but for what stands here; tests/suite/faulty.txt says which tests each fails."""
 
@@ -225,15 +226,6 @@ class IgnoresAbort(Reference):
 
     def on_ff(self, initiator, operands):
         return None
-
-
-@slip("player")
-class ShowsText(Reference):
-    """Takes text for a screen that it does not have."""
-
-    def obey(self, initiator, is_direct, opcode, operands):
-        if opcode != 0x64:
-            super().obey(initiator, is_direct, opcode, operands)
 
 
 # Which way a message comes, and from whom

@@ -14,42 +14,12 @@ class AlwaysActive(Reference):
         self.say_all(0x82, *self.bytes_of(self.physical))
 
 
-@slip("player")
-class KeepsActive(Reference):
-    """Does not see that another device is the active source."""
-
-    on_82 = passed_over
-
-
-@slip("recorder")
-class NotRouted(Reference):
-    """Does not see that the picture is routed away."""
-
-    on_80 = passed_over
-
-
-@slip("player")
-class IgnoresPath(Reference):
-    """Ignores Set Stream Path."""
-
-    on_86 = passed_over
-
-
 @slip("recorder")
 class AnyPath(Reference):
     """Takes any path for its own."""
 
     def on_86(self, initiator, operands):
         super().on_86(initiator, bytes(self.bytes_of(self.physical)))
-
-
-@slip("player")
-class NoViewOn(Reference):
-    """Plays without Image View On."""
-
-    def say(self, to, opcode, *operands):
-        if opcode != 0x04:
-            super().say(to, opcode, *operands)
 
 
 @slip("player")
@@ -70,25 +40,7 @@ class ShowsItself(Reference):
             self.say_all(0x82, *self.bytes_of(self.physical))
 
 
-@slip("player")
-class NoInactive(Reference):
-    """Says nothing when its key puts it into standby, as it may."""
-
-    def say(self, to, opcode, *operands):
-        if opcode != 0x9D:
-            super().say(to, opcode, *operands)
-
-
 # Standby
-
-@slip("player")
-class IgnoresStandby(Reference):
-    """Ignores Standby."""
-
-    def obey(self, initiator, is_direct, opcode, operands):
-        if opcode != 0x36:
-            super().obey(initiator, is_direct, opcode, operands)
-
 
 @slip("player")
 class IgnoresStandbyToAll(Reference):
@@ -332,13 +284,6 @@ class MenuKeyUnsaid(Reference):
 
 # The remote control
 
-@slip("player")
-class IgnoresRemote(Reference):
-    """Does nothing for User Control Pressed."""
-
-    on_44 = passed_over
-
-
 @slip("amp")
 class NeverReleases(Reference):
     """Goes on with a key for ever."""
@@ -376,29 +321,6 @@ class IgnoresVolume(Reference):
 # Sound
 
 @slip("amp")
-class LoudnessUnsaid(Reference):
-    """Does not say how loud it is."""
-
-    on_71 = passed_over
-
-
-@slip("amp")
-class NoChannel(Reference):
-    """Does not begin the audio return channel."""
-
-    on_c3 = passed_over
-
-
-@slip("amp")
-class ModeUnsaid(Reference):
-    """Does not say that it has the sound."""
-
-    def say_all(self, opcode, *operands):
-        if opcode != 0x72:
-            super().say_all(opcode, *operands)
-
-
-@slip("amp")
 class NeverMute(Reference):
     """Does not turn the sound off."""
 
@@ -434,13 +356,6 @@ class ChannelForAll(Reference):
         self.say(initiator, 0xC0)
 
 
-@slip("amp")
-class ChannelStays(Reference):
-    """Does not end the audio return channel."""
-
-    on_c4 = passed_over
-
-
 # Switches
 
 @slip("switch")
@@ -457,20 +372,6 @@ class SwitchAny(Reference):
 
     def routed(self, physical):
         super().routed(self.physical)
-
-
-@slip("switch")
-class SwitchStays(Reference):
-    """Does not select the port of the path."""
-
-    on_86 = passed_over
-
-
-@slip("switch")
-class SwitchBlind(Reference):
-    """Does not select the port of the active source."""
-
-    on_82 = passed_over
 
 
 @slip("switch")

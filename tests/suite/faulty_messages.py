@@ -1,6 +1,6 @@
 """Devices with one slip each, as in faulty.py: those that err in what a device has beside, in what it takes and refuses, and in standby."""
 
-from faulty import passed_over, slip
+from faulty import slip
 from faulty_features import InTransition
 from reference import MUTE_FUNCTION, RESTORE_FUNCTION, Reference
 
@@ -61,15 +61,6 @@ class ControlInName(Reference):
         self.say(initiator, 0x47, *b"D\nT")
 
 
-@slip("tuner")
-class AnyRate(Reference):
-    """Takes an audio rate that is none."""
-
-    def obey(self, initiator, is_direct, opcode, operands):
-        if opcode != 0x9A:
-            super().obey(initiator, is_direct, opcode, operands)
-
-
 @slip("player")
 class SaysLatency(Reference):
     """Says its latency where another device is asked for it."""
@@ -98,15 +89,6 @@ class RefusesSoundStatus(Reference):
 
 
 @slip("amp")
-class SilentOnDescriptors(Reference):
-    """Neither answers Request Short Audio Descriptor nor refuses it."""
-
-    def obey(self, initiator, is_direct, opcode, operands):
-        if opcode != 0xA4:
-            super().obey(initiator, is_direct, opcode, operands)
-
-
-@slip("amp")
 class TogglesMute(Reference):
     """Takes the keys that mute and that restore the volume for the one that toggles."""
 
@@ -125,13 +107,6 @@ class HasNoFunctions(Reference):
 
 # What a device has beside
 
-@slip("recorder")
-class RecordsSilently(Reference):
-    """Does not say that it records."""
-    has = ("record",)
-    on_09 = passed_over
-
-
 @slip("tuner")
 class RecordsAnything(Reference):
     """Records from a source that is none."""
@@ -139,34 +114,6 @@ class RecordsAnything(Reference):
 
     def on_09(self, initiator, operands):
         return super().on_09(initiator, b"\x01")
-
-
-@slip("recorder")
-class StopsSilently(Reference):
-    """Does not say that it records no more."""
-    has = ("record",)
-    on_0b = passed_over
-
-
-@slip("recorder")
-class TimersUnsaid(Reference):
-    """Does not say what became of a timer."""
-    has = ("timers",)
-    on_97 = passed_over
-
-
-@slip("tuner")
-class TimersStay(Reference):
-    """Does not say that a timer is gone."""
-    has = ("timers",)
-    on_99 = passed_over
-
-
-@slip("tuner")
-class TunerSilent(Reference):
-    """Does not say what its tuner shows."""
-    has = ("tuner",)
-    on_08 = passed_over
 
 
 @slip("recorder")
@@ -247,12 +194,6 @@ class EjectsNothingInStandby(Reference):
 
 
 # Televisions
-
-@slip("tv")
-class AnyDisplay(Reference):
-    """Shows text on a display that is none."""
-    on_64 = passed_over
-
 
 @slip("tv")
 class HasNoScreen(Reference):

@@ -1,6 +1,6 @@
 """Televisions with one slip each, as the devices in faulty.py."""
 
-from faulty import AcknowledgesAll, RefusesBroadcasts, RefusesNothing, ReportsNothing, passed_over, slip
+from faulty import AcknowledgesAll, RefusesBroadcasts, RefusesNothing, ReportsNothing, slip
 from reference import Reference
 
 
@@ -45,29 +45,6 @@ class RefusesToAll(RefusesBroadcasts):
     """Sends Feature Abort for a broadcast that it does not know."""
 
 
-# Questions
-
-@slip("tv")
-class HasNoVersion(Reference):
-    """Does not answer Get CEC Version."""
-
-    on_9f = passed_over
-
-
-@slip("tv")
-class HasNoLanguage(Reference):
-    """Does not answer Get Menu Language."""
-
-    on_91 = passed_over
-
-
-@slip("tv")
-class HasNoStatus(Reference):
-    """Does not answer Give Device Power Status."""
-
-    on_8f = passed_over
-
-
 # On and off
 
 @slip("tv")
@@ -77,29 +54,6 @@ class StaysOn(Reference):
     def on_36(self, initiator, operands):
         if initiator == 0:
             super().on_36(initiator, operands)
-
-
-@slip("tv")
-class IgnoresPictures(Reference):
-    """Is not woken by Image View On."""
-
-    on_04 = passed_over
-
-
-@slip("tv")
-class WaitsForPictures(Reference):
-    """Is not woken by Text View On."""
-
-    on_0d = passed_over
-
-
-@slip("tv")
-class SleepsAlone(Reference):
-    """Goes to standby without Standby to all."""
-
-    def say_all(self, opcode, *operands):
-        if opcode != 0x36:
-            super().say_all(opcode, *operands)
 
 
 # Keys, and sound
@@ -129,10 +83,3 @@ class KeepsItsSound(Reference):
     def press_of_television(self, key, *values):
         if key != "audio":
             super().press_of_television(key, *values)
-
-
-@slip("tv")
-class HasNoReturnChannel(Reference):
-    """Does not answer Initiate ARC."""
-
-    on_c0 = passed_over

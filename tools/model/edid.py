@@ -1,6 +1,6 @@
 """EDID bytes, text, port EDIDs: a plain model."""
 import re
-from wire import is_char, pa_text, parse_pa, number
+from wire import is_char, pa_text, parse_pa, number, part
 
 
 class EdidRefused(Exception):
@@ -225,15 +225,6 @@ def edid_cmd(data):
 
 
 # text -> bytes, line by line
-def split_words(line):
-    q = line.find(b'"')
-    if q < 0:
-        return line.split(b' ')
-    head = line[:q].split(b' ')
-    head[-1] += line[q:]
-    return head
-
-
 def hexbytes(w, n=None, empty_dash=False):
     if empty_dash and w == b'-':
         return b''
@@ -304,7 +295,7 @@ class TextParser:
         l = self.lines[self.n - 1]
         if self.n == len(self.lines) and self.unended:
             self.fault('syntax')
-        ws = split_words(l)
+        ws = part(l)
         if ws[0] not in allowed or len(ws) not in allowed[ws[0]]:
             self.fault('syntax')
         return ws
