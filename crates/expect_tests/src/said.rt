@@ -236,7 +236,7 @@ fn patterns_of_a_capture_name_nobody(rt: HostRuntime) {
     all_are(Judged::Capture, UNREAD, false, &rt);
 }
 
-// The words of the state line, as docs/formats.md has them: values from the least to the greatest.
+// The words of the state line, as docs/run.md has them: values from the least to the greatest.
 const STATE_WORDS: &[&[u8]] = &[
     b"tv",
     b"outside",

@@ -116,7 +116,7 @@ fn of_frame(cause: AssembleError) -> &'static str {
             "the opcode takes another number of words; words stand one space apart"
         }
         AssembleError::Operand => {
-            "operands are the opcode's words, as docs/formats.md has them; as hex, `:` and two lower-case digits a byte, where no word says them"
+            "operands are the opcode's words, as docs/asm.md has them; as hex, `:` and two lower-case digits a byte, where no word says them"
         }
     }
 }
@@ -242,7 +242,7 @@ fn of_parting(parting: Parting) -> &'static str {
             "a line `steps`, and nothing else on it, parts the script from the commands"
         }
         Parting::Capture => {
-            "a line `capture`, and nothing else on it, parts the expectations from the capture"
+            "a line `capture`, and nothing else on it, stands between the expectations and the capture, or between two captures"
         }
     }
 }

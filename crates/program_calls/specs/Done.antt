@@ -48,7 +48,7 @@ use Rattle.program_calls.specs.Reports.{WritesReports, report_kind}
 use Rattle.program_input.specs.Parted.{IsCaptureInput, IsRunInput, IsStepsInput}
 use Rattle.program_input.specs.Read.{IsAllOf}
 use Rattle.program_input.specs.Plain.{plain_held, plain_known, takes_plain}
-use Rattle.program_input.specs.Source.{known_bytes, known_joined}
+use Rattle.program_input.specs.Source.{are_texts, known_bytes, known_joined}
 use Rattle.program_calls.specs.Tests.{IsTestOf}
 
 -- this text with these counts is the trace of the run that the input spells
@@ -204,7 +204,7 @@ captures_of choice = None
 
 abbrev pub AreServedBy : Option CapturePair → CommandChoice → List ℕ → List (List ℕ) → (List ℕ → Option (List ℕ)) → Option (List ℕ) → Option (List ℕ) → Type 0
 AreServedBy (Some pair) choice name files held old new = IsComparedOf pair name files held old new
-AreServedBy None choice name files held old new = IsServed (known_joined held files) old new choice name
+AreServedBy None choice name files held old new = IsServed (known_joined (are_texts choice) held files) old new choice name
 
 -- A choice is done of several files: a report of the report of each, or what is made of them together.
 abbrev pub AreServedTogether : Bool → CommandChoice → List ℕ → List (List ℕ) → (List ℕ → Option (List ℕ)) → Option (List ℕ) → Option (List ℕ) → Type 0

@@ -11,7 +11,7 @@ ghost use Rattle.program_calls.specs.Live.{Lives};
 ghost use Rattle.cli_words.specs.Named.{named_in};
 ghost use Rattle.cli_words.specs.Operands.{asked_on, takes};
 ghost use Rattle.program_input.specs.Plain.{plain_held, plain_known, takes_plain};
-ghost use Rattle.program_input.specs.Source.{known_bytes, known_joined};
+ghost use Rattle.program_input.specs.Source.{are_texts, known_bytes, known_joined};
 
 use crate::fault::ProgramFault;
 use crate::files::{FileFault, read_file, read_files};
@@ -27,7 +27,8 @@ use cli_command::{Refused, choose};
 use cli_words::{CommandLine, is_report, line_of, named_in};
 use program_captures::follow_capture;
 use program_input::{
-    OpenFault, Opens, PlainFiles, limit_of, plain_reader, read_input, source_of, takes_plain,
+    OpenFault, Opens, PlainFiles, are_texts, limit_of, plain_reader, read_input, source_of,
+    takes_plain,
 };
 use record_core::Form;
 use std::alloc::{AllocError, Global};
@@ -368,9 +369,16 @@ impl Call<'_> {
         err: &mut E,
     ) -> u8
         requires { is_line_by_line self.asked.choice ≡ false }
-        ensures { result ≡ 0 → IsServed (known_joined (F.held files.now) (map string_bytes names.now)) (⟦<Buffered<W> as Sink>⟧.contents out.old) (W.contents (below out.new)) self.entry.asked.choice (name_of (named_in (map string_bytes self.entry.words.now))) }
+        ensures { result ≡ 0 → IsServed (known_joined (are_texts self.entry.asked.choice) (F.held files.now) (map string_bytes names.now)) (⟦<Buffered<W> as Sink>⟧.contents out.old) (W.contents (below out.new)) self.entry.asked.choice (name_of (named_in (map string_bytes self.entry.words.now))) }
     {
-        match read_files(self.alloc, limit_of(self.asked.choice), files, names) {
+        let choice = self.asked.choice;
+        match read_files(
+            self.alloc,
+            limit_of(choice),
+            files,
+            are_texts(choice),
+            names,
+        ) {
             Ok(input) => self.answer(signal_of(self.words), &input, out, err),
             Err(FileFault { name, fault }) => {
                 report(self.alloc, self.asked, Some(name), &fault, b"", err)
@@ -387,7 +395,7 @@ impl Call<'_> {
         err: &mut E,
     ) -> ProgramEnd<W>
         requires { is_line_by_line self.asked.choice ≡ false }
-        ensures { result.status ≡ 0 → IsServed (known_joined (F.held files.now) (map string_bytes names.now)) (W.contents out) (W.contents result.out) self.entry.asked.choice (name_of (named_in (map string_bytes self.entry.words.now))) }
+        ensures { result.status ≡ 0 → IsServed (known_joined (are_texts self.entry.asked.choice) (F.held files.now) (map string_bytes names.now)) (W.contents out) (W.contents result.out) self.entry.asked.choice (name_of (named_in (map string_bytes self.entry.words.now))) }
     {
         let mut out = Buffered::new(out);
         let status = self.answer_joined(files, names, &mut out, err);

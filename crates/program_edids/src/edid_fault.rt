@@ -49,7 +49,7 @@ pub enum EdidFault {
     #[error("infoframe: {0}")]
     InfoFrame(#[from] InfoFrameError),
     /// An InfoFrame is not as it has to be, or not offered. All of what it says was written.
-    #[error("the InfoFrame is none that the display offers")]
+    #[error("the InfoFrame is ill-formed, or the display does not offer it")]
     NotOffered,
     /// A rule that an EDID breaks is a failure. All rules that it breaks were written.
     #[error("edid: a rule fails")]

@@ -21,4 +21,4 @@ pub use plain::{PlainFiles, plain_reader, takes_plain};
 pub use read::{limit_of, read_input};
 pub use returns::WithoutReturns;
 pub use shelf::Shelf;
-pub use source::{Source, source_of};
+pub use source::{Source, are_texts, between, source_of};

@@ -1,10 +1,11 @@
 //! A reader of what an operand names.
 ghost use Rattle.std.specs.Prelude.{◌≡◌, IfOk};
 ghost use Rattle.std.specs.Option.{option_copied};
-ghost use Rattle.program_input.specs.Source.{known_bytes};
+ghost use Rattle.program_input.specs.Source.{are_texts, between, is_pair_of_dumps, known_bytes};
 ghost use Rattle.program_input.specs.declared.source.Source.TheVariants as sources;
 
 use crate::opens::{OpenFault, Opens};
+use cli_choice::{CommandChoice, Source as EdidSource};
 use std::io;
 use std::io::Read;
 
@@ -26,6 +27,34 @@ impl<R: Read, F: Read> Read for Source<'_, R, F> {
             Source::Opened(file) => file.read(buf),
         }
     }
+}
+
+// Whether an EDID is read from two hex dumps.
+fn is_pair_of_dumps(source: EdidSource) -> bool
+    ensures { result ≡ is_pair_of_dumps source }
+{
+    match source {
+        EdidSource::Pair { dumps, .. } => dumps,
+        EdidSource::Bytes | EdidSource::Dump { .. } | EdidSource::Text | EdidSource::Words => false,
+    }
+}
+
+/// Whether the files of a choice that are read one after the other are texts.
+pub fn are_texts(choice: CommandChoice) -> bool
+    ensures { result ≡ are_texts choice }
+{
+    match choice {
+        CommandChoice::EdidDiff { dumps, .. } => dumps,
+        CommandChoice::Edid { source, .. } => is_pair_of_dumps(source),
+        _ => false,
+    }
+}
+
+/// What stands between two files that are read one after the other: after a text an empty line.
+pub fn between(are_texts: bool) -> &'static [u8]
+    ensures { result.now ≡ between are_texts }
+{
+    if are_texts { b"\n\n" } else { b"" }
 }
 
 /// What an operand names: standard input where there is none or it is `-`, else the file of that name.
