@@ -243,6 +243,14 @@ bytes are left for data blocks, each with its first byte:
 With --ddc the output is what a reading over DDC gives: for each segment a line `segment N` and sixteen
 rows of an offset and sixteen bytes, FF where a block is missing.
 
+With --diff the output has a line for each difference of two EDIDs. With --as c, --as xml or --as firmware it is
+the EDID as an array of C, as a file of edid-decode, or as its bytes. With --eld it is the ELD that a sound
+driver makes of the EDID; with --from-eld the input is an ELD. With --infoframe HEX it is what this InfoFrame
+says, and what of it the display does not offer (docs/edid.md has the lines):
+  ./hdminet edid --diff before.edid after.edid
+  ./hdminet edid --as c tv.edid > tv.h
+  ./hdminet edid --infoframe 82020d2710280010000000000000000000 tv.edid
+
 Faults: `edid: CAUSE` with length, count (byte 126 does not tell the extensions), base header, base
 checksum, base revision, base maker or ext N checksum, and no-hdmi-block where there is no place for an
 address; `dump: none`, `dump: cut N` or `dump: long N` with --hex, where no line begins an EDID, or line N
@@ -250,5 +258,6 @@ does not go on with it, or goes past 512 bytes; `merge: CAUSE` with display or r
 EDID, or one-cta (not one extension has data blocks), or long (they have no room); `edid: a rule fails` after the rules of --check; with --text or
 --words `text: syntax N` or `text: field N`, for the first line that no EDID's text has there. Nothing is written then.
 
-Exit status: 0 done; 1 input refused; 2 command line refused; 3 a read or write fault, or input
-past 1048576 bytes; 4 no memory; 5 a rule fails.";
+Exit status: 0 done; 1 input refused, EDIDs that differ with --diff, or an InfoFrame that is ill-formed or not
+offered with --infoframe; 2 command line refused; 3 a read or write fault, or input past 1048576 bytes; 4 no
+memory; 5 a rule fails.";

@@ -618,6 +618,13 @@ once another reading is over, or with the end. With --audit what there is to say
 soon as the next fall, or the end, says all of it:
   pin-events | ./hdminet mon --follow --from pin --audit
 
+In place of readings the output may be what is said of the whole capture (docs/mon.md has the lines):
+  ./hdminet mon --verdict capture.vcd            what the line looks like, and the flag that reads more of it
+  ./hdminet mon --report capture.vcd             of each device its frames, widths, free times, answers and faults
+  ./hdminet mon --as-test good.vcd > good.expect        expectations that it meets, for check --capture
+  ./hdminet mon --replay 4 capture.vcd > player.pins    what the device at address 4 drove, as pins of a script
+  ./hdminet mon --diff before.vcd after.vcd      the frames of two captures beside each other
+
 With --json each line of the output is an object of JSON, whose first field is that line. Of an audit its
 type is reading, remark, note, sender, widths or summary; a remark has its kind, the section of HDMI 1.4
 CEC and its values.
@@ -627,5 +634,5 @@ Faults: `line N: CAUSE` for the first line at fault; nothing is written then. Of
 (out of turn or time); of the others also word, scale, signal, time, late and end, as docs/captures.md
 has them. `scale: late` where --scale takes the end past 2000000000000.
 
-Exit status: 0 done; 1 input refused, or a remark with --strict; 2 command line refused; 3 a read or write
-fault, or input past 1048576 bytes, with --from past 67108864; 4 no memory.";
+Exit status: 0 done; 1 input refused, a remark with --strict, or captures that differ with --diff; 2 command
+line refused; 3 a read or write fault, or input past 1048576 bytes, with --from past 67108864; 4 no memory.";
