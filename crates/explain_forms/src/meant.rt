@@ -360,9 +360,13 @@ fn is_of_number(spot: Spot<'_>) -> bool {
     }
 }
 
-// Whether the cause of a fault is none of a frame's opcode or of how many words it has.
-fn has_spelling(fault: InputFault) -> bool {
-    let cause = match fault {
+// Whether another spelling of a word is tried: of a frame not that of its opcode, and not where it has too many words; of a
+// capture's test not that of a line's first word, since only expectations are read again.
+fn has_spelling(spot: Spot<'_>) -> bool {
+    if spot.at.what == Input::CaptureTest && spot.word == 0 {
+        return false;
+    }
+    let cause = match spot.at.fault {
         InputFault::Frame { cause, .. } => cause,
         InputFault::Lay {
             cause: LayCause::Frame(cause),
@@ -389,7 +393,7 @@ pub fn add_meant(draft: &mut Draft, at: FaultyLine<'_>, number: usize) {
     let length = draft.len();
     if word_at(at.text, number).is_some() {
         let is_said = add_unit(draft, spot)
-            || has_spelling(at.fault) && add_respelled(draft, spot, is_of_number(spot));
+            || has_spelling(spot) && add_respelled(draft, spot, is_of_number(spot));
         if is_said {
             return;
         }

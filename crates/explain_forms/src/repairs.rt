@@ -19,6 +19,9 @@ use text_core::At;
 /// The longest line of which this is tried.
 const LONGEST: usize = 120;
 
+/// The most lines above one of which this is tried: each time all of them are read again.
+const MOST_ABOVE: usize = 1_000;
+
 /// The most words of a line whose order is changed.
 const MOST_MOVED: usize = 8;
 
@@ -26,7 +29,7 @@ const MOST_MOVED: usize = 8;
 const MARKS: &[&str] = &[",", ";", ":", "=", ">", "/", "."];
 
 /// What stands between the parts of one word.
-const JOINTS: &[&str] = &["", "-", "=", "+"];
+const JOINTS: &[&str] = &["-", "=", "+"];
 
 /// Words of a line, from one up to another.
 type Run = (usize, usize);
@@ -251,7 +254,14 @@ fn add_joined_words(draft: &mut Draft, spot: Spot<'_>, words: &str) -> bool {
             return true;
         }
     }
-    add_with_joint(draft, spot, words, ":", "")
+    are_bytes(words)
+        && (add_with_joint(draft, spot, words, "", "")
+            || add_with_joint(draft, spot, words, ":", ""))
+}
+
+// Whether words have two characters a byte.
+fn are_bytes(words: &str) -> bool {
+    words.split(' ').all(|word| word.len() % 2 == 0)
 }
 
 // Suggests one word in the place of those from the one at fault on, or from the one before it. Returns whether there is one.
@@ -314,7 +324,7 @@ fn first_dropped(spot: Spot<'_>) -> usize {
 fn add_dropped(draft: &mut Draft, spot: Spot<'_>) -> bool {
     let count = word_count(spot.at.text);
     let first = first_dropped(spot);
-    if first >= count || spot.text().starts_with("#") {
+    if first >= count {
         return false;
     }
     let last = spot.word.min(count.saturating_sub(1));
@@ -450,10 +460,11 @@ fn joined_from(spot: Spot<'_>) -> Spot<'_> {
     }
 }
 
-// Whether a line is tried otherwise: it is not too long, and has no gaps and no bytes that are not shown, of which another line
+// Whether a line is tried otherwise: it is not too long, not below too many others, and has no gaps and no bytes that are not shown, of which another line
 // speaks, as of a slip.
 fn is_tried(at: FaultyLine<'_>) -> bool {
     at.text.len() <= LONGEST
+        && at.place.number <= MOST_ABOVE
         && !at.text.split(' ').any(|word| word.is_empty())
         && at.place.line.iter().all(is_shown)
         && slip_of(at.fault, at.text).is_none()
@@ -467,7 +478,8 @@ fn is_shown(byte: &u8) -> bool {
 /// What a line at fault may have been meant to be, where it is then read.
 pub fn add_repaired(draft: &mut Draft, spot: Spot<'_>) {
     let repair = repair_of(spot.at.fault);
-    if repair == Repair::Nothing || !is_tried(spot.at) {
+    let is_remark = spot.text().starts_with("#");
+    if repair == Repair::Nothing || is_remark || !is_tried(spot.at) {
         return;
     }
     let is_all = repair == Repair::All;
