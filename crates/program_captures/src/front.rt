@@ -23,11 +23,7 @@ fn front_by(alloc: Global, edges: &[Edge], count: usize, end: u64) -> Result<Cap
 /// # Errors
 ///
 /// No memory for the front.
-pub(crate) fn front_of(
-    alloc: Global,
-    count: usize,
-    whole: Capture,
-) -> Result<Capture, AllocError> {
+pub(crate) fn front_of(alloc: Global, count: usize, whole: Capture) -> Result<Capture, AllocError> {
     let end = whole.end();
     let edges = whole.edges();
     if edges.len() <= count {

@@ -9,4 +9,4 @@ pub new-requires : goal.new-requires
 new-requires c =
     let first : Edge = record { at = 0; low = false } in
     subst (λ (items : List Edge). IsCapture items (slice_index_or c.args.edges.now c.args.count first).at) (sym (c.in_ok-front.ensures.items_if_clones_equal (λ x y e. e)))
-        (front_is_capture c.args.count c.args.end c.args.edges.now first c.requires.capture c.requires.some)
+    (front_is_capture c.args.count c.args.end c.args.edges.now first c.requires.capture c.requires.some)
