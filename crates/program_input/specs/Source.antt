@@ -18,7 +18,7 @@ is_pair_of_dumps source = false
 
 abbrev pub are_texts : CommandChoice → Bool
 are_texts (EdidDiff dumps form) = dumps
-are_texts (Edid source reading view) = is_pair_of_dumps source
+are_texts (Edid (Some source) reading view) = is_pair_of_dumps source
 are_texts choice = false
 
 -- after a text stands an empty line

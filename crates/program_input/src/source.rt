@@ -45,7 +45,10 @@ pub fn are_texts(choice: CommandChoice) -> bool
 {
     match choice {
         CommandChoice::EdidDiff { dumps, .. } => dumps,
-        CommandChoice::Edid { source, .. } => is_pair_of_dumps(source),
+        CommandChoice::Edid { source, .. } => match source {
+            Some(source) => is_pair_of_dumps(source),
+            None => false,
+        },
         _ => false,
     }
 }
