@@ -36,16 +36,21 @@ fn digits_of(word: &str) -> &str {
     digits.strip_suffix("h").unwrap_or(digits)
 }
 
+// What stands before the digits of a byte.
+fn before_byte(is_first: bool) -> &'static str {
+    if is_first { "" } else { " " }
+}
+
 // The words of a line that are bytes in hex, one space apart, where at most one other word stands among them.
 fn bytes_among(alloc: Global, line: &str) -> Result<String, AllocError> {
     let mut text = Draft::new(alloc);
     let mut others = 0usize;
-    let mut before = "";
+    let mut is_first = true;
     for word in line.split(|c: char| !c.is_ascii_alphanumeric()) {
         let digits = digits_of(word);
         if is_hex(digits) {
-            text.add_all(&[before, digits]);
-            before = " ";
+            text.add_all(&[before_byte(is_first), digits]);
+            is_first = false;
         } else if !word.is_empty() {
             others = others.saturating_add(1);
         }
