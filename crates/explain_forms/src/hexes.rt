@@ -40,12 +40,13 @@ fn digits_of(word: &str) -> &str {
 fn bytes_among(alloc: Global, line: &str) -> Result<String, AllocError> {
     let mut text = Draft::new(alloc);
     let mut others = 0usize;
-    let mut before = "";
+    let mut is_first = true;
     for word in line.split(|c: char| !c.is_ascii_alphanumeric()) {
         let digits = digits_of(word);
         if is_hex(digits) {
-            text.add_all(&[before, digits]);
-            before = " ";
+            text.add(if is_first { "" } else { " " });
+            text.add(digits);
+            is_first = false;
         } else if !word.is_empty() {
             others = others.saturating_add(1);
         }
