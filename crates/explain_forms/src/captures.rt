@@ -88,7 +88,7 @@ fn wire_of(line: &[u8]) -> Option<&str> {
     (name != "$end").then_some(name)
 }
 
-// What stands before the name of a wire.
+// What stands before a wire of a list.
 fn before_wire(is_first: bool) -> &'static str {
     if is_first {
         "  the dump has the wires `"
@@ -102,14 +102,15 @@ fn add_wires(draft: &mut Draft, at: FaultyLine<'_>) {
     let mut is_first = true;
     for line in capture_of(at).split(is_line_end) {
         if let Some(name) = wire_of(line) {
-            draft.add_all(&[before_wire(is_first), name]);
+            draft.add(before_wire(is_first));
+            draft.add(name);
             is_first = false;
         }
     }
-    if is_first {
-        draft.add_line("the dump has no wire of one bit, as `$var wire 1 ! CEC $end` declares one");
-    } else {
+    if !is_first {
         draft.add("`\n");
+    } else {
+        draft.add_line("the dump has no wire of one bit, as `$var wire 1 ! CEC $end` declares one");
     }
 }
 

@@ -36,11 +36,6 @@ fn digits_of(word: &str) -> &str {
     digits.strip_suffix("h").unwrap_or(digits)
 }
 
-// What stands before the digits of a byte.
-fn before_byte(is_first: bool) -> &'static str {
-    if is_first { "" } else { " " }
-}
-
 // The words of a line that are bytes in hex, one space apart, where at most one other word stands among them.
 fn bytes_among(alloc: Global, line: &str) -> Result<String, AllocError> {
     let mut text = Draft::new(alloc);
@@ -49,7 +44,8 @@ fn bytes_among(alloc: Global, line: &str) -> Result<String, AllocError> {
     for word in line.split(|c: char| !c.is_ascii_alphanumeric()) {
         let digits = digits_of(word);
         if is_hex(digits) {
-            text.add_all(&[before_byte(is_first), digits]);
+            text.add(if is_first { "" } else { " " });
+            text.add(digits);
             is_first = false;
         } else if !word.is_empty() {
             others = others.saturating_add(1);
