@@ -1,8 +1,9 @@
 -- What the words of a command line ask for is done.
-use Rattle.std.proofs.Common.{◌≡◌, ℕ, List, Option, Some, None, subst, sym}
+use Rattle.std.proofs.Common.{◌≡◌, ℕ, true, false, List, Option, Some, None, subst, sym}
 use Rattle.program_captures.specs.Following.{FollowsTo}
 use Rattle.program_captures.specs.Compared.{WritesAlike}
 use Rattle.program_input.specs.Parted.{IsCaptureInput}
+use Rattle.program_input.specs.Plain.{plain_held, plain_known, takes_plain}
 use Rattle.program_input.specs.Read.{IsAllOf}
 use Rattle.program_calls.specs.Done.{AreServedAs, IsCompared, IsHelp, IsServed, IsServedOf, Writes}
 use Rattle.cli_choice.specs.declared.choice.Asked.{Asked}
@@ -12,7 +13,8 @@ use Rattle.cli_choice.specs.declared.choice.FollowChoice.{FollowChoice}
 
 -- where a choice was made
 pub chosen : (o : Option Asked) (asked : Asked) (name : List ℕ) (operands : List (List ℕ)) (stdin : Option (List ℕ)) (held : List ℕ → Option (List ℕ)) (old new : Option (List ℕ)) → o ≡ Some asked
-    → IsServedOf asked.choice name operands stdin held old new → AreServedAs o name operands stdin held old new
+    → IsServedOf asked.choice name operands (plain_known (takes_plain asked.choice false) stdin) (plain_held (takes_plain asked.choice true) held) old new
+    → AreServedAs o name operands stdin held old new
 chosen o asked name operands stdin held old new is served = subst (λ x. AreServedAs x name operands stdin held old new) (sym is) served
 
 -- and where none was
