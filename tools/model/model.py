@@ -11,11 +11,20 @@ def margin_of(args):
     return int(args[args.index('--margin') + 1]) if '--margin' in args else 0
 
 
+def plain(data):
+    """a capture without the byte order mark at its front and the carriage return at the end of each line"""
+    data = data.removeprefix(b'\xef\xbb\xbf').replace(b'\r\n', b'\n')
+    return data.removesuffix(b'\r')
+
+
 def model(args, data):
     """(status, output, fault) of the subcommand on these bytes"""
     if len(data) > LIMIT:
         return 3, b'', 'input too long'
     sub = args[0] if args else 'run'
+    if '--from' in args:
+        place = args.index('--from')
+        return model(args[:place] + args[place + 2:], plain(data))
     if '--json' in args:
         status, out, fault = model([word for word in args if word not in ('--json', '--room')], data)
         if '--room' in args:
